@@ -1,0 +1,5 @@
+pub mod Arcs
+pub mod Tree
+pub mod Places
+pub mod Numbers
+pub mod Collecting

@@ -1,0 +1,7 @@
+use mathlib.Core.Path.{_∙_}
+use borrow.Author.Needs.{needs}
+use Rattle.oid.proofs.Places.{same-from-arcs}
+use Rattle.oid.proofs.identifier.Identifier.arcs.Needs as need
+
+pub returns : need.returns
+returns c = record { value = search needs; only = λ other e. same-from-arcs other (c .args .self .now) (e ∙ search needs) }

@@ -1,0 +1,13 @@
+// Object identifiers: arcs, the tree's rule, and what every notation of identifiers shares.
+pub mod arc;
+pub mod collector;
+pub mod identifier;
+pub mod numeral;
+pub mod refusal;
+
+pub use arc::Arc;
+pub use collector::Collector;
+pub use identifier::Identifier;
+pub use numeral::Numeral;
+pub use refusal::Fault;
+pub use refusal::Refusal;

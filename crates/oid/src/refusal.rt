@@ -1,0 +1,29 @@
+// Why an identifier could not be read or written, and where.
+ghost use mathlib.Core.Path.{_≡_};
+ghost use Rattle.oid.specs.Refusals.{numberOf};
+
+// The refusals of all notations. The numbers are what programs print.
+#[derive(Clone, Copy, PartialEq, Eq, Debug)]
+pub enum Refusal {
+    NotDotted = 1,
+    LeadingZero = 2,
+    ArcTooLarge = 3,
+    ArcCount = 4,
+    FirstArcs = 5,
+    PageTooShort = 25,
+}
+
+impl Refusal {
+    pub fn number(self) -> u8
+        ensures { λ r. ⌜ r ≡ numberOf self ⌝ }
+    {
+        self as u8
+    }
+}
+
+// A refusal, and the offset of the byte where it was found.
+#[derive(Clone, Copy, PartialEq, Eq, Debug)]
+pub struct Fault {
+    pub refusal: Refusal,
+    pub offset: usize,
+}
