@@ -1,0 +1,4 @@
+pub mod Prefix
+pub mod Form
+pub mod Pieces
+pub mod Reading

@@ -1,0 +1,8 @@
+// Dotted text: identifiers as decimal arcs with dots between them, as RFC 3061 has them.
+pub mod reader;
+
+mod form;
+mod pieces;
+mod prefix;
+
+pub use reader::read;

@@ -1,0 +1,25 @@
+// The reader of dotted text.
+ghost use mathlib.Core.Path.{_≡_};
+ghost use Rattle.oid.specs.Meaning.{arcsOf};
+ghost use Rattle.oid.specs.Refusals.{answered, filled};
+ghost use Rattle.dotted.specs.Reading.{readDotted};
+use crate::form::first_fault;
+use crate::pieces::collect_numbers;
+use crate::prefix::prefix_length;
+use oid::Fault;
+use oid::Identifier;
+use oid::Refusal;
+
+// Reads a text, with or without the prefix, into the caller's identifier. On a fault the identifier stays
+// as it was.
+pub fn read(text: &[u8], identifier: &mut Identifier) -> Result<(), Fault>
+    ensures value { λ r. ⌜ r ≡ answered (readDotted (now (text .entry))) ⌝ }
+    ensures after { λ _. ⌜ arcsOf (now (identifier .exit)) ≡ filled (readDotted (now (text .entry))) (arcsOf (now (identifier .entry))) ⌝ }
+{
+    let start = prefix_length(text);
+    if let Some(offset) = first_fault(text, start) {
+        return Err(Fault { refusal: Refusal::NotDotted, offset });
+    }
+    *identifier = collect_numbers(text, start).finish()?;
+    Ok(())
+}
