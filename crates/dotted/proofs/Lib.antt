@@ -1,2 +1,4 @@
 pub mod Walks
 pub mod Reading
+pub mod Digits
+pub mod Texts

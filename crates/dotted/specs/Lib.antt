@@ -2,3 +2,4 @@ pub mod Prefix
 pub mod Form
 pub mod Pieces
 pub mod Reading
+pub mod Writing

@@ -3,3 +3,4 @@ pub mod Tree
 pub mod Places
 pub mod Numbers
 pub mod Collecting
+pub mod Pages

@@ -4,3 +4,4 @@ pub mod Meaning
 pub mod Refusals
 pub mod Numbers
 pub mod Collected
+pub mod Pages

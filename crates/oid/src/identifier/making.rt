@@ -1,5 +1,6 @@
 // An identifier from its arcs, and its arcs back.
 ghost use mathlib.Core.Path.{_≡_};
+ghost use mathlib.Core.Bool.{true};
 ghost use mathlib.Core.List.{_++_};
 ghost use Prim.Native.Nat.{_≤_, _-_};
 ghost use lib.ListN.{length, replicate};
@@ -24,9 +25,10 @@ impl Identifier {
         Some(Identifier { arcs: filled_up(arcs), len })
     }
 
-    // The arcs in order. No other identifier has the same.
+    // The arcs in order. They keep the rule, and no other identifier has the same.
     pub fn arcs(&self) -> &[Arc]
         ensures value { λ r. ⌜ now r ≡ arcsOf (now (self .entry)) ⌝ }
+        ensures rule { λ r. ⌜ isIdentifier (now r) ≡ true ⌝ }
         ensures only { λ r. ⌜ ((other : Identifier) → arcsOf other ≡ now r → other ≡ now (self .entry)) ⌝ }
     {
         &self.arcs[0..self.len]

@@ -1,0 +1,15 @@
+-- The text of an identifier.
+use Prim.Native.Nat.{ℕ}
+use mathlib.Core.List.{List, [], _∷_, _++_}
+use Rattle.std.specs.Joined.{joined}
+use Rattle.std.specs.Written.{decimal}
+use Rattle.dotted.specs.Form.{dot}
+
+-- an arc in decimal, with a dot before it
+abbrev pub afterDot : ℕ → List ℕ
+afterDot arc = dot ∷ decimal arc
+
+-- the arcs in decimal, with one dot between neighbours
+unfoldable pub dottedText : List ℕ → List ℕ
+dottedText [] = []
+dottedText (arc ∷ arcs) = decimal arc ++ joined afterDot arcs
