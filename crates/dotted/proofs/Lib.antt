@@ -2,3 +2,8 @@ pub mod Walks
 pub mod Reading
 pub mod Digits
 pub mod Texts
+pub mod Spelling
+pub mod Accepting
+pub mod Accepted
+pub mod Moving
+pub mod Theorems

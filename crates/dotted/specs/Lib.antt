@@ -3,3 +3,4 @@ pub mod Form
 pub mod Pieces
 pub mod Reading
 pub mod Writing
+pub mod Laws

@@ -1,4 +1,5 @@
 // Dotted text: identifiers as decimal arcs with dots between them, as RFC 3061 has them.
+pub mod laws;
 pub mod reader;
 pub mod writer;
 

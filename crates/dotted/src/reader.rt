@@ -2,6 +2,7 @@
 ghost use mathlib.Core.Path.{_≡_};
 ghost use Rattle.oid.specs.Meaning.{arcsOf};
 ghost use Rattle.oid.specs.Refusals.{answered, filled};
+ghost use Rattle.dotted.specs.Laws.{Accepts-exactly, Prefixed};
 ghost use Rattle.dotted.specs.Reading.{readDotted};
 use crate::form::first_fault;
 use crate::pieces::collect_numbers;
@@ -15,6 +16,8 @@ use oid::Refusal;
 pub fn read(text: &[u8], identifier: &mut Identifier) -> Result<(), Fault>
     ensures value { λ r. ⌜ r ≡ answered (readDotted (now (text .entry))) ⌝ }
     ensures after { λ _. ⌜ arcsOf (now (identifier .exit)) ≡ filled (readDotted (now (text .entry))) (arcsOf (now (identifier .entry))) ⌝ }
+    ensures exactly { λ _. ⌜ Accepts-exactly (now (text .entry)) ⌝ }
+    ensures prefixed { λ _. ⌜ Prefixed (now (text .entry)) ⌝ }
 {
     let start = prefix_length(text);
     if let Some(offset) = first_fault(text, start) {

@@ -6,18 +6,21 @@ use mathlib.Core.Path.{_≡_, refl, sym, ap, _∙_}
 use native.Mathlib.Omega.{arith}
 use lib.Dec.{leb, ltb}
 use lib.ListN.{length, getD}
-use Rattle.std.specs.Options.{orOther, valueOr}
+use Rattle.std.specs.Options.{mapped, orOther, valueOr}
 use Rattle.std.specs.declared.option.Option.{Option}
 use Rattle.std.specs.declared.option.Option.the-variants.{Some, None}
+use Rattle.std.specs.declared.result.Result.{Result}
 use Rattle.std.specs.declared.result.Result.the-variants.{Ok, Err}
 use Rattle.std.proofs.shelf.Lists.{length-map}
-use Rattle.std.proofs.shelf.Tests.{and-from, and-left, and-right, le-leb, lt-leb, cond-true, cond-false, not-false}
+use Rattle.std.proofs.shelf.Tests.{and-parts, and-from, leb-true, and-left, and-right, le-leb, lt-leb, cond-true, cond-false, not-false}
 use Rattle.oid.specs.Arcs.{isArc, arcOf}
 use Rattle.oid.specs.Collected.{storedArc}
-use Rattle.oid.specs.Numbers.{Number, values, offsets, tooLarge, firstAt, readNumbers}
-use Rattle.oid.specs.Refusals.{faultAt}
-use Rattle.oid.specs.Tree.{fewestArcs, mostArcs, allArcs, startsWell}
+use Rattle.oid.specs.Numbers.{Number, values, offsets, tooLarge, firstAt, question2, question3, question4, question5, readNumbers}
+use Rattle.oid.specs.Refusals.{faultAt, ask}
+use Rattle.oid.specs.Tree.{fewestArcs, mostArcs, allArcs, startsWell, isIdentifier}
+use Rattle.oid.specs.declared.refusal.Fault.{Fault}
 use Rattle.oid.specs.declared.refusal.Refusal.the-variants.{LeadingZero, ArcTooLarge, ArcCount, FirstArcs}
+use Rattle.oid.proofs.Tree.{identifier-starts}
 
 -- how many numbers there must be
 abbrev pub fewOrMany : ℕ → Bool
@@ -84,3 +87,42 @@ module _ (numbers : List Number) where
         pub read-all : startsWell (getD (values numbers) 0 0) (getD (values numbers) 1 0) ≡ true → readNumbers numbers ≡ Ok (values numbers)
         unfolding readNumbers
         read-all e = rw (no-zero, no-large, enough, e) refl
+
+-- A question that was put before an accepted reading said yes.
+pub asked : {A : Type 0} (question : Option Fault) (others : Result A Fault) (value : A) → ask question others ≡ Ok value → (question ≡ None) × (others ≡ Ok value)
+asked None others value e = (refl, e)
+asked (Some fault) others value e = let z : _≡_ {A = ℕ} 0 1 = cc in absurd (omega arith)
+
+-- what an accepted list of numbers is
+pub record Accepted (numbers : List Number) (arcs : List ℕ) : Type 0 where
+  pub no-zero : firstAt (λ number. number .padded) numbers ≡ None
+  pub no-large : firstAt tooLarge numbers ≡ None
+  pub rule : isIdentifier arcs ≡ true
+  pub read : values numbers ≡ arcs
+
+none-mapped : (f : ℕ → Fault) (o : Option ℕ) → mapped f o ≡ None → o ≡ None
+none-mapped f None e = refl
+none-mapped f (Some n) e = let z : _≡_ {A = ℕ} 0 1 = cc in absurd (omega arith)
+
+pub yes-cond : (v : Bool) (fault : Fault) → cond v None (Some fault) ≡ None → v ≡ true
+yes-cond true fault e = refl
+yes-cond false fault e = let z : _≡_ {A = ℕ} 0 1 = cc in absurd (omega arith)
+
+pub accepted : (numbers : List Number) (arcs : List ℕ) → readNumbers numbers ≡ Ok arcs → Accepted numbers arcs
+unfolding readNumbers
+accepted numbers arcs e =
+    let q2 = asked (question2 numbers) _ arcs e in
+    let q3 = asked (question3 numbers) _ arcs (q2 .1) in
+    let q4 = asked (question4 numbers) _ arcs (q3 .1) in
+    let q5 = asked (question5 numbers) _ arcs (q4 .1) in
+    let large = none-mapped (faultAt ArcTooLarge) (firstAt tooLarge numbers) (q3 .0) in
+    let counts = and-parts (leb fewestArcs (length numbers)) (leb (length numbers) mostArcs) (yes-cond (fewOrMany (length numbers)) _ (q4 .0)) in
+    let long = length-map numbers (λ number. number .value) in
+    let starts = identifier-starts (values numbers) (omega (arith, leb-true fewestArcs (length numbers) (counts .0))) (omega (arith, leb-true (length numbers) mostArcs (counts .1))) (none-large numbers large .1) in
+    let same : values numbers ≡ arcs = cc (q5 .1) in
+    record {
+      no-zero = none-mapped (faultAt LeadingZero) (firstAt (λ number. number .padded) numbers) (q2 .0);
+      no-large = large;
+      rule = ap isIdentifier (sym same) ∙ starts ∙ yes-cond (startsWell (getD (values numbers) 0 0) (getD (values numbers) 1 0)) _ (q5 .0);
+      read = same;
+    }

@@ -4,6 +4,7 @@ use mathlib.Core.List.{List, [], _∷_, _++_, append-assoc}
 use mathlib.Core.Path.{_≡_, refl, sym, ap, _∙_}
 use native.Mathlib.Omega.{arith}
 use lib.ListN.{length, take, drop, set}
+use Rattle.std.specs.Holes.{between}
 use borrow.Rule.Slice.PartMut.{putMid}
 use Rattle.std.proofs.shelf.Lists.{length-append, length-drop, length-take-le, take-append-drop, take-at, drop-at, drop-drop, drop-all, take-rest, append-nil, set-split}
 use Rattle.oid.specs.Pages.{placed}
@@ -48,3 +49,12 @@ placed-lent place bytes page tail h e =
     let none : drop (length page - place) (drop place page) ≡ [] = drop-all (length page - place) (drop place page) (omega (arith, length-drop place page)) in
     let behind : drop (length bytes) (take (length page - place) (drop place page)) ≡ drop (place + length bytes) page = ap (drop (length bytes)) whole ∙ drop-drop (length bytes) place page in
     ap (λ l. take place page ++ (tail ++ l)) none ∙ ap (λ l. take place page ++ l) (append-nil tail ∙ e ∙ ap (λ l. bytes ++ l) behind)
+
+-- the bytes stand where they were put
+pub between-placed : (place : ℕ) (bytes page : List ℕ) → place + length bytes ≤ length page → between place (place + length bytes) (placed place bytes page) ≡ bytes
+unfolding placed
+between-placed place bytes page h =
+    let before = length-take-le place page (omega arith) in
+    let many : place + length bytes - place ≡ length bytes = omega arith in
+    let behind = drop (place + length bytes) page in
+    (λ k. take (many k) (drop-at (take place page) (bytes ++ behind) place before k)) ∙ take-at bytes behind (length bytes) refl
