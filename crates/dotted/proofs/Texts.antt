@@ -13,7 +13,7 @@ use Rattle.oid.specs.Arcs.{arcLimit, isArc}
 use Rattle.oid.specs.Tree.{allArcs, isIdentifier, mostArcs}
 use Rattle.oid.proofs.Arcs.{limit-room}
 use Rattle.oid.proofs.Tree.{Keeps, keeps}
-use Rattle.dotted.specs.Writing.{afterDot, dottedText}
+use Rattle.dotted.specs.Writing.{afterDot, dottedText, textLimit}
 use Rattle.dotted.proofs.Digits.{length-most}
 
 abbrev pub laterArcs : List ℕ → List ℕ
@@ -39,12 +39,11 @@ later-most (arc ∷ arcs) h =
     let parts = and-parts (isArc arc) (allArcs arcs) h in
     omega (arith, length-append (afterDot arc) (laterArcs arcs), length-most arc (arc-fits arc (parts .0)), later-most arcs (parts .1))
 
--- an identifier's text has at most 336 bytes
-pub text-most : (arcs : List ℕ) → isIdentifier arcs ≡ true → length (dottedText arcs) ≤ 336
+pub text-most : (arcs : List ℕ) → isIdentifier arcs ≡ true → length (dottedText arcs) ≤ textLimit
 unfolding dottedText
 text-most arcs h = go arcs (keeps arcs h)
   where
-    go : (list : List ℕ) → Keeps list → length (dottedText list) ≤ 336
+    go : (list : List ℕ) → Keeps list → length (dottedText list) ≤ textLimit
     go [] k = omega arith
     go (arc ∷ list) k = omega (arith, k .short, length-append (decimal arc) (laterArcs list), length-append (afterDot arc) (laterArcs list), later-most (arc ∷ list) (k .each))
 

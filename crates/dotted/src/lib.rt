@@ -9,4 +9,5 @@ mod pieces;
 mod prefix;
 
 pub use reader::read;
+pub use writer::TEXT_LIMIT;
 pub use writer::write;

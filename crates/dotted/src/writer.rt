@@ -3,24 +3,29 @@ ghost use mathlib.Core.Bool.{true};
 ghost use mathlib.Core.Path.{_≡_};
 ghost use Prim.Native.Nat.{_+_, _≤_};
 ghost use lib.ListN.{length};
+ghost use Rattle.std.specs.Results.{isOk};
 ghost use Rattle.std.specs.Vec.{made};
 ghost use Rattle.std.specs.Written.{decimal};
 ghost use Rattle.oid.specs.Meaning.{arcsOf};
 ghost use Rattle.oid.specs.Pages.{placed, newEnd, pageAfter};
 ghost use Rattle.oid.specs.Tree.{isIdentifier};
 ghost use Rattle.dotted.specs.Laws.{Reads-back};
-ghost use Rattle.dotted.specs.Writing.{afterDot, dottedText};
+ghost use Rattle.dotted.specs.Writing.{afterDot, dottedText, textLimit};
 use crate::decimal::digit_count;
 use crate::decimal::write_number;
 use oid::Arc;
 use oid::Identifier;
 use oid::Refusal;
 
+// No identifier's text has more bytes: 16 arcs of at most 20 digits, with 15 dots.
+pub const TEXT_LIMIT: usize = 335;
+
 // Writes the identifier's text into the page from a place onwards, and answers the new end. What it wrote
 // reads back as the identifier. Where too little of the page is left it refuses, and the page is untouched.
 pub fn write(identifier: &Identifier, page: &mut [u8], place: usize) -> Result<usize, Refusal>
     ensures value { λ r. ⌜ r ≡ newEnd place (dottedText (arcsOf (now (identifier .entry)))) (now (page .entry)) ⌝ }
     ensures after { λ _. ⌜ now (page .exit) ≡ pageAfter place (dottedText (arcsOf (now (identifier .entry)))) (now (page .entry)) ⌝ }
+    ensures succeeds { λ r. ⌜ (place + textLimit ≤ length (now (page .entry)) → isOk r ≡ true) ⌝ }
     ensures reads_back { λ r. ⌜ made r (λ end. Reads-back (now (page .exit)) place end (arcsOf (now (identifier .entry)))) ⌝ }
 {
     let arcs = identifier.arcs();

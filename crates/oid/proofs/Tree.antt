@@ -11,7 +11,7 @@ use Rattle.std.specs.Orderings.{Decides}
 use Rattle.std.proofs.shelf.Lists.{at-drop-more, length-push, length-take-le, getD-take, getD-append-left}
 use Rattle.std.proofs.shelf.Tests.{true≢false, both-ways, and-parts, and-from, eqb-true, eq-eqb, leb-true, le-leb}
 use Rattle.std.proofs.shelf.Ways.{same-from-decides}
-use Rattle.oid.specs.Arcs.{isArc}
+use Rattle.oid.specs.Arcs.{arcLimit, isArc}
 use Rattle.oid.specs.Tree.{fewestArcs, mostArcs, allArcs, startsWell, isIdentifier, identified, beginsWith}
 
 and-true : (v : Bool) → (v && true) ≡ v
@@ -140,3 +140,10 @@ identified-none list e = go (isIdentifier list) e
 pub identifier-starts : (arcs : List ℕ) → fewestArcs ≤ length arcs → length arcs ≤ mostArcs → allArcs arcs ≡ true → isIdentifier arcs ≡ startsWell (getD arcs 0 0) (getD arcs 1 0)
 unfolding isIdentifier
 identifier-starts arcs low high each = rw (le-leb fewestArcs (length arcs) low, le-leb (length arcs) mostArcs high, each) (and-true (startsWell (getD arcs 0 0) (getD arcs 1 0)))
+
+-- 0.0 is an identifier
+pub keeps-lowest : Keeps (0 ∷ 0 ∷ [])
+unfolding allArcs
+keeps-lowest =
+    let zero = le-leb 0 arcLimit (omega arith) in
+    record { long = omega arith; short = omega arith; each = and-from (isArc 0) _ zero (and-from (isArc 0) _ zero refl); start = refl }

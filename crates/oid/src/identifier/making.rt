@@ -1,7 +1,7 @@
 // An identifier from its arcs, and its arcs back.
 ghost use mathlib.Core.Path.{_≡_};
 ghost use mathlib.Core.Bool.{true};
-ghost use mathlib.Core.List.{_++_};
+ghost use mathlib.Core.List.{[], _∷_, _++_};
 ghost use Prim.Native.Nat.{_≤_, _-_};
 ghost use lib.ListN.{length, replicate};
 ghost use Rattle.std.specs.Options.{mapped};
@@ -23,6 +23,13 @@ impl Identifier {
         }
         let len = arcs.len();
         Some(Identifier { arcs: filled_up(arcs), len })
+    }
+
+    // The identifier 0.0: something for a reader to fill.
+    pub fn lowest() -> Identifier
+        ensures { λ r. ⌜ arcsOf r ≡ 0 ∷ 0 ∷ [] ⌝ }
+    {
+        Identifier { arcs: [0; MOST_ARCS], len: FEWEST_ARCS }
     }
 
     // The arcs in order. They keep the rule, and no other identifier has the same.

@@ -1,5 +1,5 @@
 use Prim.Native.Nat.{_+_, _≤_}
-use mathlib.Core.Path.{_≡_, sym, ap, _∙_}
+use mathlib.Core.Path.{_≡_, refl, ap, _∙_}
 use borrow.Author.Needs.{needs}
 use native.Mathlib.Omega.{arith}
 use lib.ListN.{length}
@@ -8,8 +8,18 @@ use Rattle.std.specs.declared.result.Result.the-variants.{Ok}
 use Rattle.oid.proofs.Pages.{between-placed}
 use Rattle.dotted.specs.Reading.{readDotted}
 use Rattle.dotted.specs.Writing.{dottedText}
+use Rattle.dotted.proofs.Texts.{text-most}
 use Rattle.dotted.proofs.Theorems.{reads-back}
 use Rattle.dotted.proofs.writer.write.Needs as need
+use Rattle.dotted.proofs.writer.write.Needs.{then-place-page·by·then-place-page, then-place-page·by·else-place-page·then-text-length-page}
+
+pub returns-then-place-page : need.returns-then-place-page
+returns-then-place-page c = record {
+  value = search needs;
+  after = search needs;
+  succeeds = λ h. absurd (elim (c .then-place-page .came) [ then-place-page·by·then-place-page w ↦ omega (arith, w .if-place-page .taken) | then-place-page·by·else-place-page·then-text-length-page w ↦ omega (arith, w .text-length .ensures, w .if-text-length-page .taken, text-most (c .arcs-arcs .result .now) (c .arcs-arcs .ensures .rule)) ]);
+  reads-back = tt;
+}
 
 pub returns : need.returns
 returns c =
@@ -20,5 +30,6 @@ returns c =
     record {
       value = search needs;
       after = search needs;
+      succeeds = λ _. refl;
       reads-back = ap readDotted there ∙ reads-back arcs (c .arcs-arcs .ensures .rule) ∙ ap Ok (c .arcs-arcs .ensures .value);
     }

@@ -1,0 +1,37 @@
+-- What the program makes of a line.
+use Prim.Native.Nat.{ℕ}
+use mathlib.Core.Bool.{cond}
+use mathlib.Core.List.{List}
+use mathlib.Core.Path.{_≡_}
+use lib.Dec.{leb, ltb}
+use lib.ListN.{length, take}
+use Rattle.std.specs.Of.Vec.{vec-items}
+use Rattle.std.specs.declared.option.Option.{Option}
+use Rattle.std.specs.declared.option.Option.the-variants.{Some, None}
+use Rattle.std.specs.declared.result.Result.{Result}
+use Rattle.std.specs.declared.result.Result.the-variants.{Ok, Err}
+use Rattle.oid.specs.Meaning.{arcsOf}
+use Rattle.oid.specs.declared.refusal.Fault.{Fault}
+use Rattle.dotted.specs.Reading.{readDotted}
+use Rattle.sticker.specs.declared.line.Line.{Line}
+use Rattle.sticker.specs.declared.verdict.Verdict.{Verdict}
+use Rattle.sticker.specs.declared.verdict.Verdict.the-variants.{Good, Faulty, Long}
+
+-- a line of more bytes is not read
+abbrev pub lineLimit : ℕ
+lineLimit = 4096
+
+-- the line has taken these bytes since it began: it keeps the first ones, and knows whether there were more
+pub record Took (line : Line) (bytes : List ℕ) : Type 0 where
+  pub kept : vec-items (line .bytes) ≡ take lineLimit bytes
+  pub long : line .long ≡ ltb lineLimit (length bytes)
+
+-- what a verdict says: none of a line that is too long, else how it was read
+abbrev pub said : Verdict → Option (Result (List ℕ) Fault)
+said (Good identifier) = Some (Ok (arcsOf identifier))
+said (Faulty fault) = Some (Err fault)
+said Long = None
+
+-- the verdict on a line
+abbrev pub verdictOn : List ℕ → Option (Result (List ℕ) Fault)
+verdictOn bytes = cond (leb (length bytes) lineLimit) (Some (readDotted bytes)) None
