@@ -46,7 +46,11 @@ fn piece_end(text: &[u8], at: usize) -> usize
 fn numeral_in(digits: &[u8], offset: usize) -> Numeral
     ensures { λ r. ⌜ r ≡ numeralOf (numberIn (record { offset = offset; digits = now (digits .entry) })) ⌝ }
 {
-    Numeral { offset, arc: arc_in(digits), padded: leading_zero(digits) }
+    Numeral {
+        offset,
+        arc: arc_in(digits),
+        padded: leading_zero(digits),
+    }
 }
 
 // The arc that decimal digits write; none where it is too large.
@@ -64,10 +68,9 @@ fn arc_in(digits: &[u8]) -> Option<Arc>
 fn with_digit(arc: Option<Arc>, digit: u8) -> Option<Arc>
     ensures { λ r. ⌜ ((n : ℕ) → arc ≡ arcOf n → r ≡ arcOf (n * 10 + (digit - 48))) ⌝ }
 {
-    match arc {
-        Some(value) => arc_of(u64::from(value).saturating_mul(10).saturating_add(u64::from(digit.saturating_sub(b'0')))),
-        None => None,
-    }
+    let value = u64::from(arc?);
+    let units = u64::from(digit.saturating_sub(b'0'));
+    arc_of(value.saturating_mul(10).saturating_add(units))
 }
 
 // Whether there are two or more digits of which the first is 0.

@@ -11,5 +11,9 @@ pub fn prefix_length(text: &[u8]) -> usize
     ensures value { λ r. ⌜ r ≡ prefixLength (now (text .entry)) ⌝ }
     ensures bound { λ r. ⌜ r ≤ length (now (text .entry)) ⌝ }
 {
-    if text.starts_with(PREFIX) { PREFIX.len() } else { 0 }
+    if text.starts_with(PREFIX) {
+        PREFIX.len()
+    } else {
+        0
+    }
 }

@@ -21,7 +21,7 @@ pub fn read(text: &[u8], identifier: &mut Identifier) -> Result<(), Fault>
 {
     let start = prefix_length(text);
     if let Some(offset) = first_fault(text, start) {
-        return Err(Fault { refusal: Refusal::NotDotted, offset });
+        return Err(Refusal::NotDotted.at(offset));
     }
     *identifier = collect_numbers(text, start).finish()?;
     Ok(())

@@ -12,5 +12,9 @@ pub const ARC_LIMIT: Arc = 4_294_967_295;
 pub fn arc_of(number: u64) -> Option<Arc>
     ensures { λ r. ⌜ r ≡ arcOf number ⌝ }
 {
-    if number <= ARC_LIMIT as u64 { Some(number as Arc) } else { None }
+    if number <= ARC_LIMIT as u64 {
+        Some(number as Arc)
+    } else {
+        None
+    }
 }

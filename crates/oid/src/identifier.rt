@@ -8,10 +8,11 @@ use crate::arc::Arc;
 
 mod family;
 mod making;
-mod same;
+pub mod same;
 
 // How many arcs an identifier has at least, and at most.
 pub const FEWEST_ARCS: usize = 2;
+
 pub const MOST_ARCS: usize = 16;
 
 // A list of 2 to 16 arcs that keeps the tree's rule. Places past the length hold 0, so that two

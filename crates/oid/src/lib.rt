@@ -8,6 +8,7 @@ pub mod refusal;
 pub use arc::Arc;
 pub use collector::Collector;
 pub use identifier::Identifier;
+pub use identifier::same::IdentifierSame;
 pub use numeral::Numeral;
 pub use refusal::Fault;
 pub use refusal::Refusal;

@@ -1,6 +1,6 @@
 // Why an identifier could not be read or written, and where.
 ghost use mathlib.Core.Path.{_≡_};
-ghost use Rattle.oid.specs.Refusals.{numberOf};
+ghost use Rattle.oid.specs.Refusals.{numberOf, faultAt};
 
 // The refusals of all notations. The numbers are what programs print.
 #[derive(Clone, Copy, PartialEq, Eq, Debug)]
@@ -18,6 +18,15 @@ impl Refusal {
         ensures { λ r. ⌜ r ≡ numberOf self ⌝ }
     {
         self as u8
+    }
+
+    pub fn at(self, offset: usize) -> Fault
+        ensures { λ r. ⌜ r ≡ faultAt self offset ⌝ }
+    {
+        Fault {
+            refusal: self,
+            offset,
+        }
     }
 }
 

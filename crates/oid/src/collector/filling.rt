@@ -24,7 +24,13 @@ impl Collector {
     pub fn new() -> Collector
         ensures { λ r. ⌜ Collected r [] ⌝ }
     {
-        Collector { arcs: [0; MOST_ARCS], offsets: [0; MOST_ARCS], count: 0, padded: None, large: None }
+        Collector {
+            arcs: [0; MOST_ARCS],
+            offsets: [0; MOST_ARCS],
+            count: 0,
+            padded: None,
+            large: None,
+        }
     }
 
     // One number more.
@@ -58,17 +64,17 @@ impl Collector {
         ensures { λ r. ⌜ ((numbers : List Number) → Collected (now (self .entry)) numbers → mapped arcsOf (λ fault. fault) r ≡ readNumbers numbers) ⌝ }
     {
         if let Some(offset) = self.padded {
-            return Err(Fault { refusal: Refusal::LeadingZero, offset });
+            return Err(Refusal::LeadingZero.at(offset));
         }
         if let Some(offset) = self.large {
-            return Err(Fault { refusal: Refusal::ArcTooLarge, offset });
+            return Err(Refusal::ArcTooLarge.at(offset));
         }
         if self.count < FEWEST_ARCS || self.count > MOST_ARCS {
-            return Err(Fault { refusal: Refusal::ArcCount, offset: 0 });
+            return Err(Refusal::ArcCount.at(0));
         }
         match Identifier::from_arcs(&self.arcs[0..self.count]) {
             Some(identifier) => Ok(identifier),
-            None => Err(Fault { refusal: Refusal::FirstArcs, offset: self.wrong_arc() }),
+            None => Err(Refusal::FirstArcs.at(self.wrong_arc())),
         }
     }
 
@@ -76,7 +82,11 @@ impl Collector {
     fn wrong_arc(&self) -> usize
         ensures { λ r. ⌜ r ≡ getD (now (self .entry) .offsets) (cond (ltb 2 (getD (now (self .entry) .arcs) 0 0)) 0 1) 0 ⌝ }
     {
-        if self.arcs[0] > 2 { self.offsets[0] } else { self.offsets[1] }
+        if self.arcs[0] > 2 {
+            self.offsets[0]
+        } else {
+            self.offsets[1]
+        }
     }
 }
 

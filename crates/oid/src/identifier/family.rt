@@ -19,7 +19,10 @@ impl Identifier {
         }
         let mut arcs = self.arcs;
         arcs[self.len - 1] = 0;
-        Some(Identifier { arcs, len: self.len - 1 })
+        Some(Identifier {
+            arcs,
+            len: self.len - 1,
+        })
     }
 
     // The identifier with one arc more; none past the most arcs.
@@ -31,7 +34,10 @@ impl Identifier {
         }
         let mut arcs = self.arcs;
         arcs[self.len] = arc;
-        Some(Identifier { arcs, len: self.len + 1 })
+        Some(Identifier {
+            arcs,
+            len: self.len + 1,
+        })
     }
 
     // Whether the other's arcs are the first arcs of this one.

@@ -22,14 +22,20 @@ impl Identifier {
             return None;
         }
         let len = arcs.len();
-        Some(Identifier { arcs: filled_up(arcs), len })
+        Some(Identifier {
+            arcs: filled_up(arcs),
+            len,
+        })
     }
 
     // The identifier 0.0: something for a reader to fill.
     pub fn lowest() -> Identifier
         ensures { λ r. ⌜ arcsOf r ≡ 0 ∷ 0 ∷ [] ⌝ }
     {
-        Identifier { arcs: [0; MOST_ARCS], len: FEWEST_ARCS }
+        Identifier {
+            arcs: [0; MOST_ARCS],
+            len: FEWEST_ARCS,
+        }
     }
 
     // The arcs in order. They keep the rule, and no other identifier has the same.
@@ -62,7 +68,10 @@ fn filled_up(arcs: &[Arc]) -> [Arc; MOST_ARCS]
 fn keeps_rule(arcs: &[Arc]) -> bool
     ensures { λ r. ⌜ r ≡ isIdentifier (now (arcs .entry)) ⌝ }
 {
-    arcs.len() >= FEWEST_ARCS && arcs.len() <= MOST_ARCS && starts_well(arcs[0], arcs[1]) && all_arcs(arcs)
+    arcs.len() >= FEWEST_ARCS
+        && arcs.len() <= MOST_ARCS
+        && starts_well(arcs[0], arcs[1])
+        && all_arcs(arcs)
 }
 
 fn starts_well(first: Arc, second: Arc) -> bool

@@ -18,7 +18,10 @@ impl Line {
     pub fn new(heap: Global) -> Result<Line, AllocError>
         ensures { λ r. ⌜ made r (λ line. Took line []) ⌝ }
     {
-        Ok(Line { bytes: Vec::with_capacity(heap, LINE_LIMIT)?, long: false })
+        Ok(Line {
+            bytes: Vec::with_capacity(heap, LINE_LIMIT)?,
+            long: false,
+        })
     }
 
     pub fn take(&mut self, byte: u8)
@@ -35,7 +38,7 @@ impl Line {
     pub fn is_empty(&self) -> bool
         ensures { λ r. ⌜ ((bytes : List ℕ) → Took (now (self .entry)) bytes → r ≡ eqb (length bytes) 0) ⌝ }
     {
-        self.bytes.is_empty()
+        self.bytes.len() == 0
     }
 
     // The verdict on the bytes it has taken.

@@ -17,7 +17,7 @@ pub returns-in-Some : need.returns-in-Some
 returns-in-Some c =
     let is = read-malformed (c .args .text .now) (c .prefix-length-start .result) (c .prefix-length-start .ensures .value) (c .in-Some .offset) (c .in-Some .ensures tt) in
     record {
-      value = sym (ap answered is);
+      value = ap Err (c .at .ensures) ∙ sym (ap answered is);
       after = sym (ap (λ r. filled r (arcsOf (c .args .identifier .now))) is);
       exactly = accepts-exactly (c .args .text .now);
       prefixed = prefixed (c .args .text .now);

@@ -2,7 +2,7 @@ use mathlib.Core.Bool.{false, true}
 use Rattle.std.proofs.shelf.Tests.{both-ways}
 use mathlib.Core.Path.{refl}
 use native.Mathlib.Omega.{arith}
-use Rattle.sticker.proofs.answer.write_text.Needs as need
+use Rattle.sticker.proofs.write_text.Needs as need
 
 pub unreachable-requires : need.unreachable-requires
 unreachable-requires g c κs = both-ways false refl (c .in-Err .ensures tt .succeeds (omega arith))
