@@ -14,7 +14,7 @@ use Rattle.std.specs.declared.result.Result.{Result}
 use Rattle.std.specs.declared.result.Result.the-variants.{Ok, Err}
 use Rattle.std.proofs.shelf.Lists.{length-map, getD-map}
 use Rattle.std.proofs.shelf.Tests.{and-parts, leb-true, cond-both}
-use Rattle.oid.specs.Numbers.{Number, values, offsets, tooLarge, firstAt, question2, question3, question4, question5, readNumbers}
+use Rattle.oid.specs.Numbers.{Number, values, offsets, tooLarge, firstAt, leadingZeros, largeNumbers, wrongCount, wrongStart, readNumbers}
 use Rattle.oid.specs.Refusals.{ask, faultAt}
 use Rattle.oid.specs.Tree.{fewestArcs, mostArcs, startsWell}
 use Rattle.oid.specs.declared.refusal.Fault.{Fault}
@@ -106,14 +106,14 @@ module _ (bytes : ℕ) where
   at-byte refusal moves o None e = ap (options.mapped (faultAt refusal)) e
   at-byte refusal moves o (Some n) e = ap (options.mapped (faultAt refusal)) e ∙ ap Some (sym (moves n))
 
-  count-moved : (numbers : List Number) → question4 (map movedNumber numbers) ≡ options.mapped (further bytes) (question4 numbers)
+  count-moved : (numbers : List Number) → wrongCount (map movedNumber numbers) ≡ options.mapped (further bytes) (wrongCount numbers)
   count-moved numbers = ap (λ n. cond (fewOrMany n) None (Some (faultAt ArcCount 0))) (length-map numbers movedNumber) ∙ go (fewOrMany (length numbers))
     where
       go : (v : Bool) → cond v None (Some (faultAt ArcCount 0)) ≡ options.mapped (further bytes) (cond v None (Some (faultAt ArcCount 0)))
       go true = refl
       go false = refl
 
-  start-moved : (numbers : List Number) → question4 numbers ≡ None → question5 (map movedNumber numbers) ≡ options.mapped (further bytes) (question5 numbers)
+  start-moved : (numbers : List Number) → wrongCount numbers ≡ None → wrongStart (map movedNumber numbers) ≡ options.mapped (further bytes) (wrongStart numbers)
   start-moved numbers enough =
       let counts = and-parts (leb fewestArcs (length numbers)) (leb (length numbers) mostArcs) (yes-cond (fewOrMany (length numbers)) _ enough) in
       let two = leb-true fewestArcs (length numbers) (counts .0) in
@@ -132,10 +132,10 @@ module _ (bytes : ℕ) where
   numbers-moved : (numbers : List Number) → readNumbers (map movedNumber numbers) ≡ movedReading (readNumbers numbers)
   unfolding readNumbers
   numbers-moved numbers =
-      ask-moved (question2 numbers) _ _ _ (at-byte LeadingZero (λ _. refl) _ _ (firstAt-moved (λ number. number .padded) (λ _. refl) numbers)) (λ _.
-      ask-moved (question3 numbers) _ _ _ (at-byte ArcTooLarge (λ _. refl) _ _ (firstAt-moved tooLarge (λ _. refl) numbers)) (λ _.
-      ask-moved (question4 numbers) _ _ _ (count-moved numbers) (λ enough.
-      ask-moved (question5 numbers) _ _ _ (start-moved numbers enough) (λ _. ap Ok (values-moved numbers)))))
+      ask-moved (leadingZeros numbers) _ _ _ (at-byte LeadingZero (λ _. refl) _ _ (firstAt-moved (λ number. number .padded) (λ _. refl) numbers)) (λ _.
+      ask-moved (largeNumbers numbers) _ _ _ (at-byte ArcTooLarge (λ _. refl) _ _ (firstAt-moved tooLarge (λ _. refl) numbers)) (λ _.
+      ask-moved (wrongCount numbers) _ _ _ (count-moved numbers) (λ enough.
+      ask-moved (wrongStart numbers) _ _ _ (start-moved numbers enough) (λ _. ap Ok (values-moved numbers)))))
 
   pub read-moved : (text : List ℕ) (offset : ℕ) → readFrom (later offset) text ≡ movedReading (readFrom offset text)
   read-moved text offset =

@@ -17,7 +17,7 @@ use Rattle.oid.specs.Numbers.{firstAt, readNumbers}
 use Rattle.oid.specs.Tree.{allArcs, isIdentifier, beginsWith}
 use Rattle.oid.proofs.Tree.{front-begins, keeps}
 use Rattle.dotted.specs.Form.{isDigit, faultyFrom}
-use Rattle.dotted.specs.Laws.{Accepts-exactly, One-text, Prefix-moves-faults, Prefixed, Examples}
+use Rattle.dotted.specs.Laws.{Accepts-exactly, One-text, Prefix-moves-faults, Examples}
 use Rattle.dotted.specs.Pieces.{piecesFrom}
 use Rattle.dotted.specs.Prefix.{prefix, prefixLength}
 use Rattle.dotted.specs.Reading.{readFrom, readDotted}
@@ -46,15 +46,16 @@ one-text one other arcs p q r s =
     let second = text-read other 0 arcs (sym (plain other q) ∙ s) .1 in
     first ∙ sym second
 
-pub prefix-moves-faults : Prefix-moves-faults
+-- the prefix before a text without one
+after-prefix : (rest : List ℕ) → prefixLength rest ≡ 0 → readDotted (prefix ++ rest) ≡ movedReading (length prefix) (readDotted rest)
 unfolding readDotted prefixLength
-prefix-moves-faults text p =
-    let begins : prefixLength (prefix ++ text) ≡ length prefix = cond-true (beginsWith (prefix ++ text) prefix) _ _ (front-begins prefix text) in
+after-prefix rest p =
+    let begins : prefixLength (prefix ++ rest) ≡ length prefix = cond-true (beginsWith (prefix ++ rest) prefix) _ _ (front-begins prefix rest) in
     let start : length prefix ≡ 0 + length prefix = omega arith in
-    ap (λ n. readFrom n (drop n (prefix ++ text))) begins ∙ ap (readFrom (length prefix)) (drop-at prefix text (length prefix) refl) ∙ ap (λ n. readFrom n text) start ∙ read-moved (length prefix) text 0 ∙ ap (movedReading (length prefix)) (sym (plain text p))
+    ap (λ n. readFrom n (drop n (prefix ++ rest))) begins ∙ ap (readFrom (length prefix)) (drop-at prefix rest (length prefix) refl) ∙ ap (λ n. readFrom n rest) start ∙ read-moved (length prefix) rest 0 ∙ ap (movedReading (length prefix)) (sym (plain rest p))
 
-pub prefixed : (text : List ℕ) → Prefixed text
-prefixed text rest p e = ap readDotted e ∙ prefix-moves-faults rest p
+pub prefix-moves-faults : Prefix-moves-faults
+prefix-moves-faults text rest p e = ap readDotted e ∙ after-prefix rest p
 
 pub examples : Examples
 unfolding readDotted prefixLength prefix beginsWith faultyFrom piecesFrom readNumbers firstAt arcLimit

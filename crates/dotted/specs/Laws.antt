@@ -50,9 +50,9 @@ further bytes fault = faultAt (fault .refusal) (offsetFurther bytes (fault .refu
 abbrev pub Prefixed : List ℕ → Type 0
 Prefixed text = (rest : List ℕ) → prefixLength rest ≡ 0 → text ≡ prefix ++ rest → readDotted text ≡ mapped (λ arcs. arcs) (further (length prefix)) (readDotted rest)
 
--- The same of every rest.
+-- So it is with every text.
 abbrev pub Prefix-moves-faults : Type 0
-Prefix-moves-faults = (rest : List ℕ) → prefixLength rest ≡ 0 → readDotted (prefix ++ rest) ≡ mapped (λ arcs. arcs) (further (length prefix)) (readDotted rest)
+Prefix-moves-faults = (text : List ℕ) → Prefixed text
 
 -- Examples: `1.40` breaks the rule at its second number, `1..2` is malformed at its first dot, and the second
 -- number of `1.02` has a leading zero.

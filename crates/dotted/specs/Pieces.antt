@@ -13,11 +13,6 @@ pub record Piece : Type 0 where
   pub offset : ℕ
   pub digits : List ℕ
 
--- the bytes before the first dot, or all
-unfoldable pub beforeDot : List ℕ → List ℕ
-beforeDot [] = []
-beforeDot (byte ∷ rest) = cond (isDot byte) [] (byte ∷ beforeDot rest)
-
 -- one byte more at the front of the first piece
 abbrev pub longer : ℕ → ℕ → List Piece → List Piece
 longer offset byte [] = []
@@ -42,3 +37,8 @@ numberIn piece = record { offset = piece .offset; value = decimalValue (piece .d
 
 abbrev pub numbersFrom : ℕ → List ℕ → List Number
 numbersFrom offset text = map numberIn (piecesFrom offset text)
+
+-- the bytes of the first piece: those before the first dot, or all
+unfoldable pub beforeDot : List ℕ → List ℕ
+beforeDot [] = []
+beforeDot (byte ∷ rest) = cond (isDot byte) [] (byte ∷ beforeDot rest)

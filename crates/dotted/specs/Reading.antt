@@ -15,12 +15,12 @@ use Rattle.dotted.specs.Prefix.{prefixLength}
 
 -- 1. After any prefix, are there only digits and dots, at least one byte, and a digit directly before and
 -- after each dot? If no: at the first byte at fault, or the prefix's end where nothing follows.
-abbrev pub question1 : ℕ → List ℕ → Option Fault
-question1 offset text = mapped (faultAt NotDotted) (faulty offset text)
+abbrev pub badForm : ℕ → List ℕ → Option Fault
+badForm offset text = mapped (faultAt NotDotted) (faulty offset text)
 
 -- The reading of what follows a prefix of the given length.
 abbrev pub readFrom : ℕ → List ℕ → Result (List ℕ) Fault
-readFrom offset text = ask (question1 offset text) (readNumbers (numbersFrom offset text))
+readFrom offset text = ask (badForm offset text) (readNumbers (numbersFrom offset text))
 
 -- The arcs that a text stands for, or its first fault: question 1, then the shared ones about its numbers.
 unfoldable pub readDotted : List ℕ → Result (List ℕ) Fault

@@ -1,4 +1,4 @@
--- What proofs may know of the arc limit. Nothing else opens it.
+-- What proofs may know of the arc limit. Only worked examples open it besides.
 use Prim.Native.Nat.{ℕ, _*_, _+_, _^_, _≤_, _<_}
 use mathlib.Core.Bool.{Bool, true, false, cond}
 use mathlib.Core.Path.{_≡_, refl, sym, ap, _∙_}

@@ -21,7 +21,7 @@ use Rattle.oid.specs.declared.collector.Collector.{Collector}
 use Rattle.oid.specs.declared.numeral.Numeral.{Numeral}
 use Rattle.oid.specs.declared.refusal.Refusal.the-variants.{FirstArcs}
 use Rattle.oid.proofs.Arcs.{isArc-is}
-use Rattle.oid.proofs.Numbers.{firstAt-push, none-large, fewOrMany, counted, read-5, read-all}
+use Rattle.oid.proofs.Numbers.{firstAt-push, none-large, fewOrMany, counted, read-start, read-all}
 use Rattle.oid.proofs.Tree.{identified-some, identified-none, identifier-starts}
 
 -- the places hold the first 16 of a list
@@ -125,4 +125,4 @@ module _ (collector : Collector) (numbers : List Number) (known : Collected coll
       let place : ℕ = cond (ltb 2 (getD (values numbers) 0 0)) 0 1 in
       let small : place ≤ 1 = cond-both (ltb 2 (getD (values numbers) 0 0)) 0 1 (λ n. n ≤ 1) (λ _. omega arith) (λ _. omega arith) in
       let there : getD (collector .offsets) place 0 ≡ getD (offsets numbers) place 0 = getD-fronts (collector .offsets) (offsets numbers) (length numbers) mostArcs place (known .places) (omega (arith, count-is)) (omega arith) in
-      ap (λ n. Err (faultAt FirstArcs n)) (at ∙ ap (λ n. getD (collector .offsets) (cond (ltb 2 n) 0 1) 0) first ∙ there) ∙ sym (read-5 numbers zero-none large-none enough ill)
+      ap (λ n. Err (faultAt FirstArcs n)) (at ∙ ap (λ n. getD (collector .offsets) (cond (ltb 2 n) 0 1) 0) first ∙ there) ∙ sym (read-start numbers zero-none large-none enough ill)

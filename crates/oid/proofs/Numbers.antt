@@ -15,7 +15,7 @@ use Rattle.std.proofs.shelf.Lists.{length-map}
 use Rattle.std.proofs.shelf.Tests.{and-parts, and-from, leb-true, and-left, and-right, le-leb, lt-leb, cond-true, cond-false, not-false}
 use Rattle.oid.specs.Arcs.{isArc, arcOf}
 use Rattle.oid.specs.Collected.{storedArc}
-use Rattle.oid.specs.Numbers.{Number, values, offsets, tooLarge, firstAt, question2, question3, question4, question5, readNumbers}
+use Rattle.oid.specs.Numbers.{Number, values, offsets, tooLarge, firstAt, leadingZeros, largeNumbers, wrongCount, wrongStart, readNumbers}
 use Rattle.oid.specs.Refusals.{faultAt, ask}
 use Rattle.oid.specs.Tree.{fewestArcs, mostArcs, allArcs, startsWell, isIdentifier}
 use Rattle.oid.specs.declared.refusal.Fault.{Fault}
@@ -65,24 +65,24 @@ none-large (number ∷ numbers) h =
     ((λ i. stored i ∷ others .0 i), and-from (isArc (number .value)) _ arc (others .1))
 
 module _ (numbers : List Number) where
-  pub read-2 : (at : ℕ) → firstAt (λ number. number .padded) numbers ≡ Some at → readNumbers numbers ≡ Err (faultAt LeadingZero at)
+  pub read-zero : (at : ℕ) → firstAt (λ number. number .padded) numbers ≡ Some at → readNumbers numbers ≡ Err (faultAt LeadingZero at)
   unfolding readNumbers
-  read-2 at e = rw e refl
+  read-zero at e = rw e refl
 
   module _ (no-zero : firstAt (λ number. number .padded) numbers ≡ None) where
-    pub read-3 : (at : ℕ) → firstAt tooLarge numbers ≡ Some at → readNumbers numbers ≡ Err (faultAt ArcTooLarge at)
+    pub read-large : (at : ℕ) → firstAt tooLarge numbers ≡ Some at → readNumbers numbers ≡ Err (faultAt ArcTooLarge at)
     unfolding readNumbers
-    read-3 at e = rw (no-zero, e) refl
+    read-large at e = rw (no-zero, e) refl
 
     module _ (no-large : firstAt tooLarge numbers ≡ None) where
-      pub read-4 : fewOrMany (length numbers) ≡ false → readNumbers numbers ≡ Err (faultAt ArcCount 0)
+      pub read-count : fewOrMany (length numbers) ≡ false → readNumbers numbers ≡ Err (faultAt ArcCount 0)
       unfolding readNumbers
-      read-4 e = rw (no-zero, no-large, e) refl
+      read-count e = rw (no-zero, no-large, e) refl
 
       module _ (enough : fewOrMany (length numbers) ≡ true) where
-        pub read-5 : startsWell (getD (values numbers) 0 0) (getD (values numbers) 1 0) ≡ false → readNumbers numbers ≡ Err (faultAt FirstArcs (getD (offsets numbers) (cond (ltb 2 (getD (values numbers) 0 0)) 0 1) 0))
+        pub read-start : startsWell (getD (values numbers) 0 0) (getD (values numbers) 1 0) ≡ false → readNumbers numbers ≡ Err (faultAt FirstArcs (getD (offsets numbers) (cond (ltb 2 (getD (values numbers) 0 0)) 0 1) 0))
         unfolding readNumbers
-        read-5 e = rw (no-zero, no-large, enough, e) refl
+        read-start e = rw (no-zero, no-large, enough, e) refl
 
         pub read-all : startsWell (getD (values numbers) 0 0) (getD (values numbers) 1 0) ≡ true → readNumbers numbers ≡ Ok (values numbers)
         unfolding readNumbers
@@ -111,18 +111,18 @@ yes-cond false fault e = let z : _≡_ {A = ℕ} 0 1 = cc in absurd (omega arith
 pub accepted : (numbers : List Number) (arcs : List ℕ) → readNumbers numbers ≡ Ok arcs → Accepted numbers arcs
 unfolding readNumbers
 accepted numbers arcs e =
-    let q2 = asked (question2 numbers) _ arcs e in
-    let q3 = asked (question3 numbers) _ arcs (q2 .1) in
-    let q4 = asked (question4 numbers) _ arcs (q3 .1) in
-    let q5 = asked (question5 numbers) _ arcs (q4 .1) in
-    let large = none-mapped (faultAt ArcTooLarge) (firstAt tooLarge numbers) (q3 .0) in
-    let counts = and-parts (leb fewestArcs (length numbers)) (leb (length numbers) mostArcs) (yes-cond (fewOrMany (length numbers)) _ (q4 .0)) in
+    let zeros = asked (leadingZeros numbers) _ arcs e in
+    let larges = asked (largeNumbers numbers) _ arcs (zeros .1) in
+    let count = asked (wrongCount numbers) _ arcs (larges .1) in
+    let start = asked (wrongStart numbers) _ arcs (count .1) in
+    let large = none-mapped (faultAt ArcTooLarge) (firstAt tooLarge numbers) (larges .0) in
+    let counts = and-parts (leb fewestArcs (length numbers)) (leb (length numbers) mostArcs) (yes-cond (fewOrMany (length numbers)) _ (count .0)) in
     let long = length-map numbers (λ number. number .value) in
     let starts = identifier-starts (values numbers) (omega (arith, leb-true fewestArcs (length numbers) (counts .0))) (omega (arith, leb-true (length numbers) mostArcs (counts .1))) (none-large numbers large .1) in
-    let same : values numbers ≡ arcs = cc (q5 .1) in
+    let same : values numbers ≡ arcs = cc (start .1) in
     record {
-      no-zero = none-mapped (faultAt LeadingZero) (firstAt (λ number. number .padded) numbers) (q2 .0);
+      no-zero = none-mapped (faultAt LeadingZero) (firstAt (λ number. number .padded) numbers) (zeros .0);
       no-large = large;
-      rule = ap isIdentifier (sym same) ∙ starts ∙ yes-cond (startsWell (getD (values numbers) 0 0) (getD (values numbers) 1 0)) _ (q5 .0);
+      rule = ap isIdentifier (sym same) ∙ starts ∙ yes-cond (startsWell (getD (values numbers) 0 0) (getD (values numbers) 1 0)) _ (start .0);
       read = same;
     }

@@ -11,7 +11,7 @@ use Rattle.std.specs.declared.result.Result.{Result}
 use Rattle.std.specs.declared.result.Result.the-variants.{Ok}
 use Rattle.oid.specs.Arcs.{isArc}
 use Rattle.oid.specs.Refusals.{faultAt, ask}
-use Rattle.oid.specs.Tree.{fewestArcs, mostArcs, startsWell}
+use Rattle.oid.specs.Tree.{fewestArcs, mostArcs, lastRoot, startsWell}
 use Rattle.oid.specs.declared.refusal.Fault.{Fault}
 use Rattle.oid.specs.declared.refusal.Refusal.the-variants.{LeadingZero, ArcTooLarge, ArcCount, FirstArcs}
 
@@ -37,25 +37,25 @@ firstAt test [] = None
 firstAt test (number ∷ numbers) = cond (test number) (Some (number .offset)) (firstAt test numbers)
 
 -- 2. Is no number of two or more digits begun with 0? If no: at the first such number.
-abbrev pub question2 : List Number → Option Fault
-question2 numbers = mapped (faultAt LeadingZero) (firstAt (λ number. number .padded) numbers)
+abbrev pub leadingZeros : List Number → Option Fault
+leadingZeros numbers = mapped (faultAt LeadingZero) (firstAt (λ number. number .padded) numbers)
 
 -- 3. Is every number an arc? If no: at the first too large.
-abbrev pub question3 : List Number → Option Fault
-question3 numbers = mapped (faultAt ArcTooLarge) (firstAt tooLarge numbers)
+abbrev pub largeNumbers : List Number → Option Fault
+largeNumbers numbers = mapped (faultAt ArcTooLarge) (firstAt tooLarge numbers)
 
 -- 4. Are there 2 to 16 numbers? If no: at offset 0.
-abbrev pub question4 : List Number → Option Fault
-question4 numbers = cond (leb fewestArcs (length numbers) && leb (length numbers) mostArcs) None (Some (faultAt ArcCount 0))
+abbrev pub wrongCount : List Number → Option Fault
+wrongCount numbers = cond (leb fewestArcs (length numbers) && leb (length numbers) mostArcs) None (Some (faultAt ArcCount 0))
 
 -- 5. Do the first two arcs keep the tree's rule? If no: at the first number if it is above 2, else at the second.
-abbrev pub question5 : List Number → Option Fault
-question5 numbers =
+abbrev pub wrongStart : List Number → Option Fault
+wrongStart numbers =
     let first = getD (values numbers) 0 0 in
     let second = getD (values numbers) 1 0 in
-    cond (startsWell first second) None (Some (faultAt FirstArcs (getD (offsets numbers) (cond (ltb 2 first) 0 1) 0)))
+    cond (startsWell first second) None (Some (faultAt FirstArcs (getD (offsets numbers) (cond (ltb lastRoot first) 0 1) 0)))
 
 -- The arcs that the numbers stand for, or the first no.
 unfoldable pub readNumbers : List Number → Result (List ℕ) Fault
 readNumbers numbers =
-    ask (question2 numbers) (ask (question3 numbers) (ask (question4 numbers) (ask (question5 numbers) (Ok (values numbers)))))
+    ask (leadingZeros numbers) (ask (largeNumbers numbers) (ask (wrongCount numbers) (ask (wrongStart numbers) (Ok (values numbers)))))

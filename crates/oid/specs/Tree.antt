@@ -15,13 +15,20 @@ fewestArcs = 2
 abbrev pub mostArcs : ℕ
 mostArcs = 16
 
+-- the roots of the tree are 0, 1 and 2, and under 0 and 1 no second arc is larger than 39
+abbrev pub lastRoot : ℕ
+lastRoot = 2
+
+abbrev pub lastSecond : ℕ
+lastSecond = 39
+
 unfoldable pub allArcs : List ℕ → Bool
 allArcs [] = true
 allArcs (n ∷ ns) = isArc n && allArcs ns
 
 -- the first arc is 0, 1 or 2, and under 0 and 1 the second is at most 39
 abbrev pub startsWell : ℕ → ℕ → Bool
-startsWell first second = eqb first 2 || (leb first 1 && leb second 39)
+startsWell first second = eqb first lastRoot || (ltb first lastRoot && leb second lastSecond)
 
 -- the list is an identifier: 2 to 16 arcs that start well
 unfoldable pub isIdentifier : List ℕ → Bool

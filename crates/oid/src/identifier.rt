@@ -15,6 +15,11 @@ pub const FEWEST_ARCS: usize = 2;
 
 pub const MOST_ARCS: usize = 16;
 
+// The roots of the tree are 0, 1 and 2, and under 0 and 1 no second arc is larger than 39.
+pub const LAST_ROOT: Arc = 2;
+
+pub const LAST_SECOND: Arc = 39;
+
 // A list of 2 to 16 arcs that keeps the tree's rule. Places past the length hold 0, so that two
 // identifiers with the same arcs are the same value.
 #[derive(Clone, Copy)]

@@ -4,6 +4,8 @@ pub mod collector;
 pub mod identifier;
 pub mod numeral;
 pub mod refusal;
+#[cfg(test)]
+mod tests;
 
 pub use arc::Arc;
 pub use collector::Collector;

@@ -10,11 +10,12 @@ ghost use Rattle.std.specs.declared.option.Option.the-variants.{Some, None};
 ghost use Rattle.oid.specs.Collected.{Collected, numeralOf};
 ghost use Rattle.oid.specs.Meaning.{arcsOf};
 ghost use Rattle.oid.specs.Numbers.{Number, readNumbers};
-ghost use Rattle.oid.specs.Tree.{mostArcs};
+ghost use Rattle.oid.specs.Tree.{mostArcs, lastRoot};
 use super::Collector;
 use crate::arc::Arc;
 use crate::identifier::FEWEST_ARCS;
 use crate::identifier::Identifier;
+use crate::identifier::LAST_ROOT;
 use crate::identifier::MOST_ARCS;
 use crate::numeral::Numeral;
 use crate::refusal::Fault;
@@ -78,11 +79,11 @@ impl Collector {
         }
     }
 
-    // Where the first number begins if it is above 2, else the second.
+    // Where the first number begins if it is no root, else the second.
     fn wrong_arc(&self) -> usize
-        ensures { λ r. ⌜ r ≡ getD (now (self .entry) .offsets) (cond (ltb 2 (getD (now (self .entry) .arcs) 0 0)) 0 1) 0 ⌝ }
+        ensures { λ r. ⌜ r ≡ getD (now (self .entry) .offsets) (cond (ltb lastRoot (getD (now (self .entry) .arcs) 0 0)) 0 1) 0 ⌝ }
     {
-        if self.arcs[0] > 2 {
+        if self.arcs[0] > LAST_ROOT {
             self.offsets[0]
         } else {
             self.offsets[1]

@@ -9,6 +9,8 @@ ghost use Rattle.oid.specs.Meaning.{arcsOf};
 ghost use Rattle.oid.specs.Tree.{mostArcs, allArcs, startsWell, isIdentifier, identified};
 use super::FEWEST_ARCS;
 use super::Identifier;
+use super::LAST_ROOT;
+use super::LAST_SECOND;
 use super::MOST_ARCS;
 use crate::arc::Arc;
 use crate::arc::arc_of;
@@ -77,7 +79,7 @@ fn keeps_rule(arcs: &[Arc]) -> bool
 fn starts_well(first: Arc, second: Arc) -> bool
     ensures { λ r. ⌜ r ≡ startsWell first second ⌝ }
 {
-    first == 2 || first <= 1 && second <= 39
+    first == LAST_ROOT || first < LAST_ROOT && second <= LAST_SECOND
 }
 
 fn all_arcs(numbers: &[Arc]) -> bool

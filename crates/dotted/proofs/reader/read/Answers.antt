@@ -4,7 +4,7 @@ use Rattle.std.proofs.shelf.Results.{err-from-errBy}
 use Rattle.oid.specs.Meaning.{arcsOf}
 use Rattle.oid.specs.Refusals.{answered, filled}
 use Rattle.dotted.proofs.Reading.{read-malformed, read-formed}
-use Rattle.dotted.proofs.Theorems.{accepts-exactly, prefixed}
+use Rattle.dotted.proofs.Theorems.{accepts-exactly, prefix-moves-faults}
 use Rattle.dotted.proofs.reader.read.Needs as need
 
 pub first-fault-requires : need.first-fault-requires
@@ -20,7 +20,7 @@ returns-in-Some c =
       value = ap Err (c .at .ensures) ∙ sym (ap answered is);
       after = sym (ap (λ r. filled r (arcsOf (c .args .identifier .now))) is);
       exactly = accepts-exactly (c .args .text .now);
-      prefixed = prefixed (c .args .text .now);
+      prefixed = prefix-moves-faults (c .args .text .now);
     }
 
 pub returns-in-Break-identifier : need.returns-in-Break-identifier
@@ -32,7 +32,7 @@ returns-in-Break-identifier c =
       value = p .1 ∙ ap Err (p .2) ∙ ap answered is;
       after = ap (λ r. filled r (arcsOf (c .args .identifier .now))) is;
       exactly = accepts-exactly (c .args .text .now);
-      prefixed = prefixed (c .args .text .now);
+      prefixed = prefix-moves-faults (c .args .text .now);
     }
 
 pub returns : need.returns
@@ -43,5 +43,5 @@ returns c =
       value = ap answered is;
       after = ap (λ r. filled r (arcsOf (c .args .identifier .now))) is;
       exactly = accepts-exactly (c .args .text .now);
-      prefixed = prefixed (c .args .text .now);
+      prefixed = prefix-moves-faults (c .args .text .now);
     }

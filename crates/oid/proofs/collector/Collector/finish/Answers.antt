@@ -6,20 +6,20 @@ use lib.ListN.{length, take}
 use Rattle.std.specs.declared.result.Result.the-variants.{Err}
 use Rattle.oid.specs.Tree.{identified}
 use Rattle.oid.proofs.Collecting.{finish-some, finish-none}
-use Rattle.oid.proofs.Numbers.{fewOrMany, too-few, too-many, read-2, read-3, read-4}
+use Rattle.oid.proofs.Numbers.{fewOrMany, too-few, too-many, read-zero, read-large, read-count}
 use Rattle.oid.proofs.collector.Collector.finish.Needs as need
 use Rattle.oid.proofs.collector.Collector.finish.Needs.{then-self-lt-FEWEST-ARCS·by·then-self-lt-FEWEST-ARCS, then-self-lt-FEWEST-ARCS·by·else-self-lt-FEWEST-ARCS·then-self-gt-MOST-ARCS}
 
 pub returns-in-Some : need.returns-in-Some
-returns-in-Some c numbers known = ap Err (c .at .ensures) ∙ sym (read-2 numbers (c .in-Some .offset) (sym (known .padded) ∙ c .in-Some .is))
+returns-in-Some c numbers known = ap Err (c .at .ensures) ∙ sym (read-zero numbers (c .in-Some .offset) (sym (known .padded) ∙ c .in-Some .is))
 
 pub returns-in-Some-large : need.returns-in-Some-large
-returns-in-Some-large c numbers known = ap Err (c .at-in-Some-large .ensures) ∙ sym (read-3 numbers (sym (known .padded) ∙ c .in-rest .is) (c .in-Some-large .offset) (sym (known .large) ∙ c .in-Some-large .is))
+returns-in-Some-large c numbers known = ap Err (c .at-in-Some-large .ensures) ∙ sym (read-large numbers (sym (known .padded) ∙ c .in-rest .is) (c .in-Some-large .offset) (sym (known .large) ∙ c .in-Some-large .is))
 
 pub returns-then-self-lt-FEWEST-ARCS : need.returns-then-self-lt-FEWEST-ARCS
 returns-then-self-lt-FEWEST-ARCS c numbers known =
     let miscounted : fewOrMany (length numbers) ≡ false = elim (c .then-self-lt-FEWEST-ARCS .came) [ then-self-lt-FEWEST-ARCS·by·then-self-lt-FEWEST-ARCS w ↦ too-few (length numbers) (omega (arith, known .count, w .if-self-lt-FEWEST-ARCS .taken)) | then-self-lt-FEWEST-ARCS·by·else-self-lt-FEWEST-ARCS·then-self-gt-MOST-ARCS w ↦ too-many (length numbers) (omega (arith, known .count, w .if-self-gt-MOST-ARCS .taken)) ] in
-    ap Err (c .at-then-self-lt-FEWEST-ARCS .ensures) ∙ sym (read-4 numbers (sym (known .padded) ∙ c .in-rest .is) (sym (known .large) ∙ c .in-rest-large .is) miscounted)
+    ap Err (c .at-then-self-lt-FEWEST-ARCS .ensures) ∙ sym (read-count numbers (sym (known .padded) ∙ c .in-rest .is) (sym (known .large) ∙ c .in-rest-large .is) miscounted)
 
 pub returns-in-Some-from-arcs : need.returns-in-Some-from-arcs
 returns-in-Some-from-arcs c numbers known =
