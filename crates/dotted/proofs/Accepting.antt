@@ -1,34 +1,36 @@
 -- The text of an identifier is read as that identifier.
-use Prim.Native.Nat.{ℕ, _+_, _^_, _≤_, _<_}
-use mathlib.Core.Bool.{Bool, true, false, cond, not, _&&_, _||_}
+use Prim.Native.Nat.{ℕ, _+_, _<_}
+use mathlib.Core.Bool.{Bool, true, false, not}
 use mathlib.Core.List.{List, [], _∷_, _++_, map, append-nil}
 use mathlib.Core.Path.{_≡_, refl, sym, ap, _∙_}
 use native.Mathlib.Omega.{arith}
-use lib.ListN.{length, drop, getD}
+use lib.ListN.{length, getD}
 use Rattle.std.specs.Options.{mapped}
 use Rattle.std.specs.Written.{decimal}
-use Rattle.std.specs.declared.option.Option.the-variants.{Some, None}
-use Rattle.std.specs.declared.result.Result.the-variants.{Ok, Err}
+use Rattle.std.specs.declared.option.Option.the-variants.{None}
+use Rattle.std.specs.declared.result.Result.the-variants.{Ok}
 use Rattle.std.specs.shelf.Text.{allDigits}
 use Rattle.std.proofs.shelf.Decimals.{decimal-some}
 use Rattle.std.proofs.shelf.Lists.{length-map}
-use Rattle.std.proofs.shelf.Tests.{and-parts, and-from, or-left, or-right, cond-true, cond-false}
+use Rattle.std.proofs.shelf.Tests.{and-parts, or-left, cond-true, cond-false}
 use Rattle.oid.specs.Arcs.{isArc}
 use Rattle.oid.specs.Numbers.{Number, values, tooLarge, firstAt, readNumbers}
 use Rattle.oid.specs.Refusals.{ask, faultAt}
 use Rattle.oid.specs.Tree.{allArcs, isIdentifier}
 use Rattle.oid.specs.declared.refusal.Refusal.the-variants.{NotDotted}
 use Rattle.oid.proofs.Numbers.{counted, read-all}
-use Rattle.oid.proofs.Tree.{Keeps, keeps}
+use Rattle.oid.proofs.Tree.{keeps}
 use Rattle.dotted.specs.Form.{dot, isDot, isDigit, beginsWithDigit, mayStand, faultyFrom, faulty}
 use Rattle.dotted.specs.Pieces.{Piece, longer, piecesFrom, decimalValue, leadingZero, numberIn, numbersFrom}
 use Rattle.dotted.specs.Reading.{readFrom}
-use Rattle.dotted.specs.Writing.{afterDot, dottedText}
+use Rattle.dotted.specs.Writing.{dottedText}
 use Rattle.dotted.proofs.Spelling.{digits-of, value-of, unpadded-of, digit-no-dot}
 use Rattle.dotted.proofs.Texts.{laterArcs, arc-fits}
 
 -- question 1 passes over digits
-faulty-digits : (digits rest : List ℕ) (offset : ℕ) (afterDigit : Bool) → allDigits digits ≡ true → 0 < length digits → faultyFrom offset afterDigit (digits ++ rest) ≡ faultyFrom (offset + length digits) true rest
+faulty-digits : (digits rest : List ℕ) (offset : ℕ) (afterDigit : Bool) → allDigits digits ≡ true
+    → 0 < length digits
+    → faultyFrom offset afterDigit (digits ++ rest) ≡ faultyFrom (offset + length digits) true rest
 unfolding faultyFrom
 faulty-digits [] rest offset afterDigit all some = absurd (omega arith)
 faulty-digits (byte ∷ []) rest offset afterDigit all some =
@@ -39,7 +41,9 @@ faulty-digits (byte ∷ next ∷ digits) rest offset afterDigit all some =
     let parts = and-parts (isDigit byte) (allDigits (next ∷ digits)) all in
     let stands : mayStand afterDigit byte (next ∷ (digits ++ rest)) ≡ true = or-left (isDigit byte) _ (parts .0) in
     let further : offset + 1 + length (next ∷ digits) ≡ offset + length (byte ∷ next ∷ digits) = omega arith in
-    cond-true _ _ _ stands ∙ faulty-digits (next ∷ digits) rest (offset + 1) (isDigit byte) (parts .1) (omega arith) ∙ ap (λ n. faultyFrom n true rest) further
+    cond-true _ _ _ stands
+    ∙ faulty-digits (next ∷ digits) rest (offset + 1) (isDigit byte) (parts .1) (omega arith)
+    ∙ ap (λ n. faultyFrom n true rest) further
 
 begins : (digits rest : List ℕ) → allDigits digits ≡ true → 0 < length digits → beginsWithDigit (digits ++ rest) ≡ true
 begins [] rest all some = absurd (omega arith)
@@ -53,8 +57,11 @@ faulty-later (arc ∷ arcs) offset h =
     let parts = and-parts (isArc arc) (allArcs arcs) h in
     let fits = arc-fits arc (parts .0) in
     let some = decimal-some arc fits in
-    let stands : mayStand true dot (decimal arc ++ laterArcs arcs) ≡ true = begins (decimal arc) (laterArcs arcs) (digits-of arc fits) some in
-    cond-true _ _ _ stands ∙ faulty-digits (decimal arc) (laterArcs arcs) (offset + 1) false (digits-of arc fits) some ∙ faulty-later arcs _ (parts .1)
+    let stands : mayStand true dot (decimal arc ++ laterArcs arcs) ≡ true =
+    begins (decimal arc) (laterArcs arcs) (digits-of arc fits) some in
+    cond-true _ _ _ stands
+    ∙ faulty-digits (decimal arc) (laterArcs arcs) (offset + 1) false (digits-of arc fits) some
+    ∙ faulty-later arcs _ (parts .1)
 
 -- the digits of each piece
 abbrev digitsIn : List Piece → List (List ℕ)
@@ -69,7 +76,8 @@ onto-longer : (offset byte : ℕ) (pieces : List Piece) → digitsIn (longer off
 onto-longer offset byte [] = refl
 onto-longer offset byte (piece ∷ pieces) = refl
 
-onto-both : (byte : ℕ) (digits : List ℕ) (lists : List (List ℕ)) → onto (byte ∷ []) (onto digits lists) ≡ onto (byte ∷ digits) lists
+onto-both : (byte : ℕ) (digits : List ℕ) (lists : List (List ℕ))
+    → onto (byte ∷ []) (onto digits lists) ≡ onto (byte ∷ digits) lists
 onto-both byte digits [] = refl
 onto-both byte digits (first ∷ others) = refl
 
@@ -77,7 +85,8 @@ onto-none : (lists : List (List ℕ)) → onto [] lists ≡ lists
 onto-none [] = refl
 onto-none (first ∷ others) = refl
 
-pieces-digits : (digits rest : List ℕ) (offset : ℕ) → allDigits digits ≡ true → digitsIn (piecesFrom offset (digits ++ rest)) ≡ onto digits (digitsIn (piecesFrom (offset + length digits) rest))
+pieces-digits : (digits rest : List ℕ) (offset : ℕ) → allDigits digits ≡ true
+    → digitsIn (piecesFrom offset (digits ++ rest)) ≡ onto digits (digitsIn (piecesFrom (offset + length digits) rest))
 unfolding piecesFrom
 pieces-digits [] rest offset all =
     let here : offset ≡ offset + 0 = omega arith in
@@ -85,9 +94,13 @@ pieces-digits [] rest offset all =
 pieces-digits (byte ∷ digits) rest offset all =
     let parts = and-parts (isDigit byte) (allDigits digits) all in
     let further : offset + 1 + length digits ≡ offset + length (byte ∷ digits) = omega arith in
-    ap digitsIn (cond-false (isDot byte) _ _ (digit-no-dot byte (parts .0))) ∙ onto-longer offset byte (piecesFrom (offset + 1) (digits ++ rest)) ∙ ap (onto (byte ∷ [])) (pieces-digits digits rest (offset + 1) (parts .1)) ∙ onto-both byte digits _ ∙ ap (λ n. onto (byte ∷ digits) (digitsIn (piecesFrom n rest))) further
+    ap digitsIn (cond-false (isDot byte) _ _ (digit-no-dot byte (parts .0)))
+    ∙ onto-longer offset byte (piecesFrom (offset + 1) (digits ++ rest))
+    ∙ ap (onto (byte ∷ [])) (pieces-digits digits rest (offset + 1) (parts .1)) ∙ onto-both byte digits _
+    ∙ ap (λ n. onto (byte ∷ digits) (digitsIn (piecesFrom n rest))) further
 
-pieces-later : (arcs : List ℕ) (offset : ℕ) → allArcs arcs ≡ true → digitsIn (piecesFrom offset (laterArcs arcs)) ≡ [] ∷ map decimal arcs
+pieces-later : (arcs : List ℕ) (offset : ℕ) → allArcs arcs ≡ true
+    → digitsIn (piecesFrom offset (laterArcs arcs)) ≡ [] ∷ map decimal arcs
 unfolding piecesFrom allArcs
 pieces-later [] offset h = refl
 pieces-later (arc ∷ arcs) offset h =
@@ -95,12 +108,15 @@ pieces-later (arc ∷ arcs) offset h =
     let fits = arc-fits arc (parts .0) in
     ap (λ l. [] ∷ l) (pieces-digits (decimal arc) (laterArcs arcs) (offset + 1) (digits-of arc fits) ∙ ap (onto (decimal arc)) (pieces-later arcs _ (parts .1)) ∙ ap (λ l. l ∷ map decimal arcs) (append-nil (decimal arc)))
 
-pieces-text : (arcs : List ℕ) (offset : ℕ) → 0 < length arcs → allArcs arcs ≡ true → digitsIn (piecesFrom offset (dottedText arcs)) ≡ map decimal arcs
+pieces-text : (arcs : List ℕ) (offset : ℕ) → 0 < length arcs → allArcs arcs ≡ true
+    → digitsIn (piecesFrom offset (dottedText arcs)) ≡ map decimal arcs
 unfolding dottedText allArcs
 pieces-text [] offset some h = absurd (omega arith)
 pieces-text (arc ∷ arcs) offset some h =
     let parts = and-parts (isArc arc) (allArcs arcs) h in
-    pieces-digits (decimal arc) (laterArcs arcs) offset (digits-of arc (arc-fits arc (parts .0))) ∙ ap (onto (decimal arc)) (pieces-later arcs _ (parts .1)) ∙ ap (λ l. l ∷ map decimal arcs) (append-nil (decimal arc))
+    pieces-digits (decimal arc) (laterArcs arcs) offset (digits-of arc (arc-fits arc (parts .0)))
+    ∙ ap (onto (decimal arc)) (pieces-later arcs _ (parts .1))
+    ∙ ap (λ l. l ∷ map decimal arcs) (append-nil (decimal arc))
 
 -- numbers that are written as arcs are: none has a leading zero or is too large, and their values are the arcs
 record Plain (numbers : List Number) (arcs : List ℕ) : Type 0 where
@@ -108,7 +124,8 @@ record Plain (numbers : List Number) (arcs : List ℕ) : Type 0 where
   no-large : firstAt tooLarge numbers ≡ None
   read : values numbers ≡ arcs
 
-plain : (pieces : List Piece) (arcs : List ℕ) → allArcs arcs ≡ true → digitsIn pieces ≡ map decimal arcs → Plain (map numberIn pieces) arcs
+plain : (pieces : List Piece) (arcs : List ℕ) → allArcs arcs ≡ true → digitsIn pieces ≡ map decimal arcs
+    → Plain (map numberIn pieces) arcs
 unfolding firstAt allArcs
 plain [] [] h e = record { no-zero = refl; no-large = refl; read = refl }
 plain [] (arc ∷ arcs) h e = let z : _≡_ {A = ℕ} 0 1 = cc in absurd (omega arith)
@@ -135,9 +152,12 @@ well-formed (arc ∷ arcs) offset some h =
     let parts = and-parts (isArc arc) (allArcs arcs) h in
     let fits = arc-fits arc (parts .0) in
     let digits = decimal-some arc fits in
-    from-some (decimal arc) digits ∙ faulty-digits (decimal arc) (laterArcs arcs) offset false (digits-of arc fits) digits ∙ faulty-later arcs _ (parts .1)
+    from-some (decimal arc) digits
+    ∙ faulty-digits (decimal arc) (laterArcs arcs) offset false (digits-of arc fits) digits
+    ∙ faulty-later arcs _ (parts .1)
   where
-    from-some : (digits : List ℕ) → 0 < length digits → faulty offset (digits ++ laterArcs arcs) ≡ faultyFrom offset false (digits ++ laterArcs arcs)
+    from-some : (digits : List ℕ) → 0 < length digits
+        → faulty offset (digits ++ laterArcs arcs) ≡ faultyFrom offset false (digits ++ laterArcs arcs)
     from-some [] none = absurd (omega arith)
     from-some (byte ∷ digits) ok = refl
 
@@ -151,4 +171,6 @@ read-text arcs offset h =
     let numbers = numbersFrom offset (dottedText arcs) in
     let long : length numbers ≡ length arcs = sym (length-map numbers (λ n. n .value)) ∙ ap length (found .read) in
     let starts = ap (λ l. Rattle.oid.specs.Tree.startsWell (getD l 0 0) (getD l 1 0)) (found .read) ∙ k .start in
-    ap (λ o. ask (mapped (faultAt NotDotted) o) (readNumbers numbers)) formed ∙ read-all numbers (found .no-zero) (found .no-large) (counted (length numbers) (omega (arith, k .long)) (omega (arith, k .short))) starts ∙ ap Ok (found .read)
+    ap (λ o. ask (mapped (faultAt NotDotted) o) (readNumbers numbers)) formed
+    ∙ read-all numbers (found .no-zero) (found .no-large) (counted (length numbers) (omega (arith, k .long)) (omega (arith, k .short))) starts
+    ∙ ap Ok (found .read)

@@ -1,7 +1,7 @@
 -- A reading that begins further on finds the same, further on.
-use Prim.Native.Nat.{ℕ, _+_, _≤_, _<_}
+use Prim.Native.Nat.{ℕ, _+_, _≤_}
 use mathlib.Core.Bool.{Bool, true, false, cond}
-use mathlib.Core.List.{List, [], _∷_, _++_, map}
+use mathlib.Core.List.{List, [], _∷_, map}
 use mathlib.Core.Path.{_≡_, refl, sym, ap, _∙_}
 use native.Mathlib.Omega.{arith}
 use lib.Dec.{leb, ltb}
@@ -11,7 +11,7 @@ use Rattle.std.specs.Results as results
 use Rattle.std.specs.declared.option.Option.{Option}
 use Rattle.std.specs.declared.option.Option.the-variants.{Some, None}
 use Rattle.std.specs.declared.result.Result.{Result}
-use Rattle.std.specs.declared.result.Result.the-variants.{Ok, Err}
+use Rattle.std.specs.declared.result.Result.the-variants.{Ok}
 use Rattle.std.proofs.shelf.Lists.{length-map, getD-map}
 use Rattle.std.proofs.shelf.Tests.{and-parts, leb-true, cond-both}
 use Rattle.oid.specs.Numbers.{Number, values, offsets, tooLarge, firstAt, leadingZeros, largeNumbers, wrongCount, wrongStart, readNumbers}
@@ -40,7 +40,8 @@ module _ (bytes : ℕ) where
   movedReading reading = results.mapped (λ arcs. arcs) (further bytes) reading
 
   -- the form
-  form-moved : (text : List ℕ) (offset : ℕ) (afterDigit : Bool) → faultyFrom (later offset) afterDigit text ≡ options.mapped later (faultyFrom offset afterDigit text)
+  form-moved : (text : List ℕ) (offset : ℕ) (afterDigit : Bool)
+      → faultyFrom (later offset) afterDigit text ≡ options.mapped later (faultyFrom offset afterDigit text)
   unfolding faultyFrom
   form-moved [] offset afterDigit = refl
   form-moved (byte ∷ rest) offset afterDigit = go (mayStand afterDigit byte rest) (form-moved rest (offset + 1) (isDigit byte))
@@ -48,7 +49,9 @@ module _ (bytes : ℕ) where
       next : offset + bytes + 1 ≡ offset + 1 + bytes
       next = omega arith
 
-      go : (v : Bool) → faultyFrom (later (offset + 1)) (isDigit byte) rest ≡ options.mapped later (faultyFrom (offset + 1) (isDigit byte) rest) → cond v (faultyFrom (later offset + 1) (isDigit byte) rest) (Some (later offset)) ≡ options.mapped later (cond v (faultyFrom (offset + 1) (isDigit byte) rest) (Some offset))
+      go : (v : Bool)
+          → faultyFrom (later (offset + 1)) (isDigit byte) rest ≡ options.mapped later (faultyFrom (offset + 1) (isDigit byte) rest)
+          → cond v (faultyFrom (later offset + 1) (isDigit byte) rest) (Some (later offset)) ≡ options.mapped later (cond v (faultyFrom (offset + 1) (isDigit byte) rest) (Some offset))
       go true e = ap (λ n. faultyFrom n (isDigit byte) rest) next ∙ e
       go false e = refl
 
@@ -57,7 +60,8 @@ module _ (bytes : ℕ) where
   faulty-moved (byte ∷ rest) offset = form-moved (byte ∷ rest) offset false
 
   -- the pieces, and the numbers in them
-  longer-moved : (offset byte : ℕ) (pieces : List Piece) → longer (later offset) byte (map movedPiece pieces) ≡ map movedPiece (longer offset byte pieces)
+  longer-moved : (offset byte : ℕ) (pieces : List Piece)
+      → longer (later offset) byte (map movedPiece pieces) ≡ map movedPiece (longer offset byte pieces)
   longer-moved offset byte [] = refl
   longer-moved offset byte (piece ∷ pieces) = refl
 
@@ -69,9 +73,11 @@ module _ (bytes : ℕ) where
       next : offset + bytes + 1 ≡ offset + 1 + bytes
       next = omega arith
 
-      go : (v : Bool) → piecesFrom (later (offset + 1)) rest ≡ map movedPiece (piecesFrom (offset + 1) rest) → cond v (record { offset = later offset; digits = [] } ∷ piecesFrom (later offset + 1) rest) (longer (later offset) byte (piecesFrom (later offset + 1) rest)) ≡ map movedPiece (cond v (record { offset = offset; digits = [] } ∷ piecesFrom (offset + 1) rest) (longer offset byte (piecesFrom (offset + 1) rest)))
+      go : (v : Bool) → piecesFrom (later (offset + 1)) rest ≡ map movedPiece (piecesFrom (offset + 1) rest)
+          → cond v (record { offset = later offset; digits = [] } ∷ piecesFrom (later offset + 1) rest) (longer (later offset) byte (piecesFrom (later offset + 1) rest)) ≡ map movedPiece (cond v (record { offset = offset; digits = [] } ∷ piecesFrom (offset + 1) rest) (longer offset byte (piecesFrom (offset + 1) rest)))
       go true e = ap (λ l. record { offset = later offset; digits = [] } ∷ l) (ap (λ n. piecesFrom n rest) next ∙ e)
-      go false e = ap (longer (later offset) byte) (ap (λ n. piecesFrom n rest) next ∙ e) ∙ longer-moved offset byte (piecesFrom (offset + 1) rest)
+      go false e = ap (longer (later offset) byte) (ap (λ n. piecesFrom n rest) next ∙ e)
+          ∙ longer-moved offset byte (piecesFrom (offset + 1) rest)
 
   numbered : (pieces : List Piece) → map numberIn (map movedPiece pieces) ≡ map movedNumber (map numberIn pieces)
   numbered [] = refl
@@ -86,46 +92,65 @@ module _ (bytes : ℕ) where
   offsets-moved [] = refl
   offsets-moved (number ∷ numbers) = ap (λ l. later (number .offset) ∷ l) (offsets-moved numbers)
 
-  picked-moved : (v : Bool) (offset : ℕ) (o p : Option ℕ) → o ≡ options.mapped later p → cond v (Some (later offset)) o ≡ options.mapped later (cond v (Some offset) p)
+  picked-moved : (v : Bool) (offset : ℕ) (o p : Option ℕ) → o ≡ options.mapped later p
+      → cond v (Some (later offset)) o ≡ options.mapped later (cond v (Some offset) p)
   picked-moved true offset o p e = refl
   picked-moved false offset o p e = e
 
   -- a test that does not look at the offset
-  firstAt-moved : (test : Number → Bool) → ((number : Number) → test (movedNumber number) ≡ test number) → (numbers : List Number) → firstAt test (map movedNumber numbers) ≡ options.mapped later (firstAt test numbers)
+  firstAt-moved : (test : Number → Bool) → ((number : Number) → test (movedNumber number) ≡ test number)
+      → (numbers : List Number)
+      → firstAt test (map movedNumber numbers) ≡ options.mapped later (firstAt test numbers)
   unfolding firstAt
   firstAt-moved test same [] = refl
   firstAt-moved test same (number ∷ numbers) =
-      ap (λ v. cond v (Some (later (number .offset))) (firstAt test (map movedNumber numbers))) (same number) ∙ picked-moved (test number) (number .offset) _ _ (firstAt-moved test same numbers)
+      ap (λ v. cond v (Some (later (number .offset))) (firstAt test (map movedNumber numbers))) (same number)
+      ∙ picked-moved (test number) (number .offset) _ _ (firstAt-moved test same numbers)
 
-  ask-moved : (before after : Option Fault) (others others′ : Result (List ℕ) Fault) → after ≡ options.mapped (further bytes) before → (before ≡ None → others′ ≡ movedReading others) → ask after others′ ≡ movedReading (ask before others)
+  ask-moved : (before after : Option Fault) (others others′ : Result (List ℕ) Fault)
+      → after ≡ options.mapped (further bytes) before → (before ≡ None → others′ ≡ movedReading others)
+      → ask after others′ ≡ movedReading (ask before others)
   ask-moved None after others others′ e h = ap (λ q. ask q others′) e ∙ h refl
   ask-moved (Some fault) after others others′ e h = ap (λ q. ask q others′) e
 
   -- a fault at a byte
-  at-byte : (refusal : Refusal) → ((offset : ℕ) → further bytes (faultAt refusal offset) ≡ faultAt refusal (later offset)) → (o p : Option ℕ) → o ≡ options.mapped later p → options.mapped (faultAt refusal) o ≡ options.mapped (further bytes) (options.mapped (faultAt refusal) p)
+  at-byte : (refusal : Refusal)
+      → ((offset : ℕ) → further bytes (faultAt refusal offset) ≡ faultAt refusal (later offset))
+      → (o p : Option ℕ) → o ≡ options.mapped later p
+      → options.mapped (faultAt refusal) o ≡ options.mapped (further bytes) (options.mapped (faultAt refusal) p)
   at-byte refusal moves o None e = ap (options.mapped (faultAt refusal)) e
   at-byte refusal moves o (Some n) e = ap (options.mapped (faultAt refusal)) e ∙ ap Some (sym (moves n))
 
-  count-moved : (numbers : List Number) → wrongCount (map movedNumber numbers) ≡ options.mapped (further bytes) (wrongCount numbers)
-  count-moved numbers = ap (λ n. cond (fewOrMany n) None (Some (faultAt ArcCount 0))) (length-map numbers movedNumber) ∙ go (fewOrMany (length numbers))
+  count-moved : (numbers : List Number)
+      → wrongCount (map movedNumber numbers) ≡ options.mapped (further bytes) (wrongCount numbers)
+  count-moved numbers = ap (λ n. cond (fewOrMany n) None (Some (faultAt ArcCount 0))) (length-map numbers movedNumber)
+      ∙ go (fewOrMany (length numbers))
     where
-      go : (v : Bool) → cond v None (Some (faultAt ArcCount 0)) ≡ options.mapped (further bytes) (cond v None (Some (faultAt ArcCount 0)))
+      go : (v : Bool)
+          → cond v None (Some (faultAt ArcCount 0)) ≡ options.mapped (further bytes) (cond v None (Some (faultAt ArcCount 0)))
       go true = refl
       go false = refl
 
-  start-moved : (numbers : List Number) → wrongCount numbers ≡ None → wrongStart (map movedNumber numbers) ≡ options.mapped (further bytes) (wrongStart numbers)
+  start-moved : (numbers : List Number) → wrongCount numbers ≡ None
+      → wrongStart (map movedNumber numbers) ≡ options.mapped (further bytes) (wrongStart numbers)
   start-moved numbers enough =
-      let counts = and-parts (leb fewestArcs (length numbers)) (leb (length numbers) mostArcs) (yes-cond (fewOrMany (length numbers)) _ enough) in
+      let counts =
+      and-parts (leb fewestArcs (length numbers)) (leb (length numbers) mostArcs) (yes-cond (fewOrMany (length numbers)) _ enough) in
       let two = leb-true fewestArcs (length numbers) (counts .0) in
       let place : ℕ = cond (ltb 2 (getD (values numbers) 0 0)) 0 1 in
-      let small : place ≤ 1 = cond-both (ltb 2 (getD (values numbers) 0 0)) 0 1 (λ n. n ≤ 1) (λ _. omega arith) (λ _. omega arith) in
-      let there : getD (map later (offsets numbers)) place 0 ≡ later (getD (offsets numbers) place 0) = getD-map later (offsets numbers) place 0 0 (omega (arith, length-map numbers (λ number. number .offset))) in
-      (λ k. asks (values-moved numbers k) (offsets-moved numbers k)) ∙ go (startsWell (getD (values numbers) 0 0) (getD (values numbers) 1 0)) place there
+      let small : place ≤ 1 =
+      cond-both (ltb 2 (getD (values numbers) 0 0)) 0 1 (λ n. n ≤ 1) (λ _. omega arith) (λ _. omega arith) in
+      let there : getD (map later (offsets numbers)) place 0 ≡ later (getD (offsets numbers) place 0) =
+      getD-map later (offsets numbers) place 0 0 (omega (arith, length-map numbers (λ number. number .offset))) in
+      (λ k. asks (values-moved numbers k) (offsets-moved numbers k))
+      ∙ go (startsWell (getD (values numbers) 0 0) (getD (values numbers) 1 0)) place there
     where
       asks : List ℕ → List ℕ → Option Fault
       asks arcs places = cond (startsWell (getD arcs 0 0) (getD arcs 1 0)) None (Some (faultAt FirstArcs (getD places (cond (ltb 2 (getD arcs 0 0)) 0 1) 0)))
 
-      go : (v : Bool) (place : ℕ) → getD (map later (offsets numbers)) place 0 ≡ later (getD (offsets numbers) place 0) → cond v None (Some (faultAt FirstArcs (getD (map later (offsets numbers)) place 0))) ≡ options.mapped (further bytes) (cond v None (Some (faultAt FirstArcs (getD (offsets numbers) place 0))))
+      go : (v : Bool) (place : ℕ)
+          → getD (map later (offsets numbers)) place 0 ≡ later (getD (offsets numbers) place 0)
+          → cond v None (Some (faultAt FirstArcs (getD (map later (offsets numbers)) place 0))) ≡ options.mapped (further bytes) (cond v None (Some (faultAt FirstArcs (getD (offsets numbers) place 0))))
       go true place e = refl
       go false place e = ap (λ n. Some (faultAt FirstArcs n)) e
 

@@ -1,11 +1,11 @@
 -- What the first question makes of a reading.
 use Prim.Native.Nat.{ℕ}
 use mathlib.Core.List.{List}
-use mathlib.Core.Path.{_≡_, refl, sym, ap, _∙_}
+use mathlib.Core.Path.{_≡_, sym, ap, _∙_}
 use lib.ListN.{drop}
 use Rattle.std.specs.Options.{mapped}
 use Rattle.std.specs.declared.option.Option.the-variants.{Some, None}
-use Rattle.std.specs.declared.result.Result.the-variants.{Ok, Err}
+use Rattle.std.specs.declared.result.Result.the-variants.{Err}
 use Rattle.oid.specs.Numbers.{readNumbers}
 use Rattle.oid.specs.Refusals.{ask, faultAt}
 use Rattle.oid.specs.declared.refusal.Refusal.the-variants.{NotDotted}
@@ -19,8 +19,11 @@ module _ (text : List ℕ) (start : ℕ) (begins : start ≡ prefixLength text) 
   unfolding readDotted
   from-start = ap (λ n. readFrom n (drop n text)) (sym begins)
 
-  pub read-malformed : (offset : ℕ) → Some offset ≡ faulty start (drop start text) → readDotted text ≡ Err (faultAt NotDotted offset)
-  read-malformed offset e = from-start ∙ ap (λ o. ask (mapped (faultAt NotDotted) o) (readNumbers (numbersFrom start (drop start text)))) (sym e)
+  pub read-malformed : (offset : ℕ) → Some offset ≡ faulty start (drop start text)
+      → readDotted text ≡ Err (faultAt NotDotted offset)
+  read-malformed offset e = from-start
+      ∙ ap (λ o. ask (mapped (faultAt NotDotted) o) (readNumbers (numbersFrom start (drop start text)))) (sym e)
 
   pub read-formed : None ≡ faulty start (drop start text) → readDotted text ≡ readNumbers (numbersFrom start (drop start text))
-  read-formed e = from-start ∙ ap (λ o. ask (mapped (faultAt NotDotted) o) (readNumbers (numbersFrom start (drop start text)))) (sym e)
+  read-formed e = from-start
+      ∙ ap (λ o. ask (mapped (faultAt NotDotted) o) (readNumbers (numbersFrom start (drop start text)))) (sym e)

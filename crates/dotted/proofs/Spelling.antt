@@ -1,20 +1,18 @@
 -- Decimal digits and the numbers that they write, both ways.
-use Prim.Native.Nat.{ℕ, _+_, _-_, _*_, _^_, _≤_, _<_}
-use mathlib.Core.Bool.{Bool, true, false, cond, _&&_}
-use mathlib.Core.List.{List, [], _∷_, _++_, map}
-use mathlib.Core.Path.{_≡_, refl, sym, ap, _∙_}
+use Prim.Native.Nat.{ℕ, _-_, _^_, _≤_, _<_}
+use mathlib.Core.Bool.{true, false}
+use mathlib.Core.List.{List, map}
+use mathlib.Core.Path.{_≡_, refl, ap}
 use mathlib.Core.Logic.{⊎-elim}
-use borrow.Author.Needs.{needs}
 use native.Mathlib.Omega.{arith}
-use lib.Dec.{eqb, ltb}
+use lib.Dec.{ltb}
 use lib.ListN.{length, getD}
-use Rattle.std.specs.Text.{asciiDigit, In}
 use Rattle.std.specs.Written.{decimal}
-use Rattle.std.specs.shelf.Digits.{number, numberAfter}
+use Rattle.std.specs.shelf.Digits.{numberAfter}
 use Rattle.std.specs.shelf.Text.{allDigits}
-use Rattle.std.proofs.shelf.Decimals.{decimal-some, first-decimal, decimal-digit, digits-decimal, value-decimal, decimal-value}
-use Rattle.std.proofs.shelf.Numerals.{Numerals, Folds, numerals-by-fold, tells-allDigits}
-use Rattle.std.proofs.shelf.Tests.{and-parts, and-left, and-right, and-from, eqb-true, eq-eqb, ne-eqb, lt-ltb, le-ltb, leb-true, cases-lt, cases-bool, both-ways}
+use Rattle.std.proofs.shelf.Decimals.{first-decimal, decimal-digit, digits-decimal, value-decimal, decimal-value}
+use Rattle.std.proofs.shelf.Numerals.{Numerals, numerals-by-fold, tells-allDigits}
+use Rattle.std.proofs.shelf.Tests.{and-parts, and-left, and-right, and-from, eq-eqb, ne-eqb, lt-ltb, le-ltb, leb-true, cases-lt, both-ways}
 use Rattle.dotted.specs.Form.{isDot, isDigit}
 use Rattle.dotted.specs.Pieces.{decimalValue, leadingZero}
 
@@ -23,7 +21,8 @@ abbrev valueAfter : ℕ → List ℕ → ℕ
 valueAfter n digits = numberAfter 10 n (map (λ byte. byte - 48) digits)
 
 own : Numerals (λ ds. allDigits ds ≡ true) decimalValue
-own = numerals-by-fold (λ ds. allDigits ds ≡ true) tells-allDigits valueAfter (record { empty = λ n. refl; more = λ n c cs h. refl })
+own =
+    numerals-by-fold (λ ds. allDigits ds ≡ true) tells-allDigits valueAfter (record { empty = λ n. refl; more = λ n c cs h. refl })
 
 pub digits-of : (n : ℕ) → n < 2 ^ 64 → allDigits (decimal n) ≡ true
 digits-of n h = digits-decimal own n h
@@ -42,7 +41,8 @@ unpadded-of n h = ⊎-elim positive zero (cases-lt 0 n)
     zero none = and-left (ltb 1 (length (decimal n))) _ (le-ltb 1 (length (decimal n)) (omega (arith, ap length (decimal-digit n (omega arith)))))
 
 -- digits without a leading zero are what is written of their value
-pub written-again : (digits : List ℕ) → allDigits digits ≡ true → 0 < length digits → leadingZero digits ≡ false → decimalValue digits < 2 ^ 64 → decimal (decimalValue digits) ≡ digits
+pub written-again : (digits : List ℕ) → allDigits digits ≡ true → 0 < length digits
+    → leadingZero digits ≡ false → decimalValue digits < 2 ^ 64 → decimal (decimalValue digits) ≡ digits
 written-again digits all some unpadded small = decimal-value own digits all some single small
   where
     single : getD digits 0 0 ≡ 48 → length digits ≡ 1

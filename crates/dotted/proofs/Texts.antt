@@ -2,15 +2,15 @@
 use Prim.Native.Nat.{ℕ, _+_, _*_, _^_, _≤_, _<_}
 use mathlib.Core.Bool.{true}
 use mathlib.Core.List.{List, [], _∷_, _++_}
-use mathlib.Core.Path.{_≡_, refl, sym, ap, _∙_}
+use mathlib.Core.Path.{_≡_, ap, _∙_}
 use native.Mathlib.Omega.{arith}
 use lib.ListN.{length, drop, getD}
 use Rattle.std.specs.Joined.{joined}
 use Rattle.std.specs.Written.{decimal}
-use Rattle.std.proofs.shelf.Lists.{at-drop-more, at-drop-all, drop-more, length-append}
+use Rattle.std.proofs.shelf.Lists.{at-drop-more, at-drop-all, length-append}
 use Rattle.std.proofs.shelf.Tests.{and-parts, leb-true}
 use Rattle.oid.specs.Arcs.{arcLimit, isArc}
-use Rattle.oid.specs.Tree.{allArcs, isIdentifier, mostArcs}
+use Rattle.oid.specs.Tree.{allArcs, isIdentifier}
 use Rattle.oid.proofs.Arcs.{limit-room}
 use Rattle.oid.proofs.Tree.{Keeps, keeps}
 use Rattle.dotted.specs.Writing.{afterDot, dottedText, textLimit}
@@ -23,7 +23,8 @@ pub text-first : (arcs : List ℕ) → 0 < length arcs → dottedText arcs ≡ d
 unfolding dottedText
 text-first arcs h = at-drop-more dottedText arcs 0 0 h
 
-pub later-more : (arcs : List ℕ) (i : ℕ) → i < length arcs → laterArcs (drop i arcs) ≡ afterDot (getD arcs i 0) ++ laterArcs (drop (i + 1) arcs)
+pub later-more : (arcs : List ℕ) (i : ℕ) → i < length arcs
+    → laterArcs (drop i arcs) ≡ afterDot (getD arcs i 0) ++ laterArcs (drop (i + 1) arcs)
 later-more arcs i h = at-drop-more laterArcs arcs i 0 h
 
 pub later-none : (arcs : List ℕ) (i : ℕ) → length arcs ≤ i → laterArcs (drop i arcs) ≡ []
@@ -51,10 +52,12 @@ pub some-arcs : (arcs : List ℕ) → isIdentifier arcs ≡ true → 2 ≤ lengt
 some-arcs arcs h = keeps arcs h .long
 
 -- the lengths of the parts
-pub length-first : (arcs : List ℕ) → 0 < length arcs → length (dottedText arcs) ≡ length (decimal (getD arcs 0 0)) + length (laterArcs (drop 1 arcs))
+pub length-first : (arcs : List ℕ) → 0 < length arcs
+    → length (dottedText arcs) ≡ length (decimal (getD arcs 0 0)) + length (laterArcs (drop 1 arcs))
 length-first arcs h = ap length (text-first arcs h) ∙ length-append (decimal (getD arcs 0 0)) (laterArcs (drop 1 arcs))
 
-pub length-more : (arcs : List ℕ) (i : ℕ) → i < length arcs → length (laterArcs (drop i arcs)) ≡ 1 + length (decimal (getD arcs i 0)) + length (laterArcs (drop (i + 1) arcs))
+pub length-more : (arcs : List ℕ) (i : ℕ) → i < length arcs
+    → length (laterArcs (drop i arcs)) ≡ 1 + length (decimal (getD arcs i 0)) + length (laterArcs (drop (i + 1) arcs))
 length-more arcs i h =
     let e = ap length (later-more arcs i h) ∙ length-append (afterDot (getD arcs i 0)) (laterArcs (drop (i + 1) arcs)) in
     omega arith

@@ -1,11 +1,11 @@
 -- The laws of dotted text.
-use Prim.Native.Nat.{ℕ, _+_, _-_, _≤_, _<_}
-use mathlib.Core.Bool.{Bool, true, false, cond}
+use Prim.Native.Nat.{ℕ, _+_, _≤_, _<_}
+use mathlib.Core.Bool.{true, false}
 use mathlib.Core.List.{List, [], _∷_, _++_}
 use mathlib.Core.Path.{_≡_, refl, sym, ap, _∙_}
 use native.Mathlib.Omega.{arith}
 use lib.Dec.{eqb}
-use lib.ListN.{length, take, drop, getD}
+use lib.ListN.{length, drop}
 use Rattle.std.specs.Written.{decimal}
 use Rattle.std.specs.declared.result.Result.the-variants.{Ok}
 use Rattle.std.specs.shelf.Text.{allDigits}
@@ -47,12 +47,17 @@ one-text one other arcs p q r s =
     first ∙ sym second
 
 -- the prefix before a text without one
-after-prefix : (rest : List ℕ) → prefixLength rest ≡ 0 → readDotted (prefix ++ rest) ≡ movedReading (length prefix) (readDotted rest)
+after-prefix : (rest : List ℕ) → prefixLength rest ≡ 0
+    → readDotted (prefix ++ rest) ≡ movedReading (length prefix) (readDotted rest)
 unfolding readDotted prefixLength
 after-prefix rest p =
-    let begins : prefixLength (prefix ++ rest) ≡ length prefix = cond-true (beginsWith (prefix ++ rest) prefix) _ _ (front-begins prefix rest) in
+    let begins : prefixLength (prefix ++ rest) ≡ length prefix =
+    cond-true (beginsWith (prefix ++ rest) prefix) _ _ (front-begins prefix rest) in
     let start : length prefix ≡ 0 + length prefix = omega arith in
-    ap (λ n. readFrom n (drop n (prefix ++ rest))) begins ∙ ap (readFrom (length prefix)) (drop-at prefix rest (length prefix) refl) ∙ ap (λ n. readFrom n rest) start ∙ read-moved (length prefix) rest 0 ∙ ap (movedReading (length prefix)) (sym (plain rest p))
+    ap (λ n. readFrom n (drop n (prefix ++ rest))) begins
+    ∙ ap (readFrom (length prefix)) (drop-at prefix rest (length prefix) refl)
+    ∙ ap (λ n. readFrom n rest) start ∙ read-moved (length prefix) rest 0
+    ∙ ap (movedReading (length prefix)) (sym (plain rest p))
 
 pub prefix-moves-faults : Prefix-moves-faults
 prefix-moves-faults text rest p e = ap readDotted e ∙ after-prefix rest p

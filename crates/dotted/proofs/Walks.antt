@@ -31,26 +31,31 @@ module _ (text : List ℕ) (i : ℕ) where
     unfolding faultyFrom
     by-first = at-drop-more (faultyFrom i afterDigit) text i 0 inside
 
-    pub faulty-more : mayStand afterDigit (getD text i 0) (drop (i + 1) text) ≡ true → faultyFrom i afterDigit (drop i text) ≡ faultyFrom (i + 1) (isDigit (getD text i 0)) (drop (i + 1) text)
+    pub faulty-more : mayStand afterDigit (getD text i 0) (drop (i + 1) text) ≡ true
+        → faultyFrom i afterDigit (drop i text) ≡ faultyFrom (i + 1) (isDigit (getD text i 0)) (drop (i + 1) text)
     faulty-more h = by-first ∙ ap (λ v. cond v (faultyFrom (i + 1) (isDigit (getD text i 0)) (drop (i + 1) text)) (Some i)) h
 
-    pub faulty-here : mayStand afterDigit (getD text i 0) (drop (i + 1) text) ≡ false → faultyFrom i afterDigit (drop i text) ≡ Some i
+    pub faulty-here : mayStand afterDigit (getD text i 0) (drop (i + 1) text) ≡ false
+        → faultyFrom i afterDigit (drop i text) ≡ Some i
     faulty-here h = by-first ∙ ap (λ v. cond v (faultyFrom (i + 1) (isDigit (getD text i 0)) (drop (i + 1) text)) (Some i)) h
 
   pub faulty-end : length text ≤ i → (afterDigit : Bool) → faultyFrom i afterDigit (drop i text) ≡ None
   unfolding faultyFrom
   faulty-end h afterDigit = at-drop-all (faultyFrom i afterDigit) text i h
 
-  pub before-more : i < length text → isDot (getD text i 0) ≡ false → beforeDot (drop i text) ≡ getD text i 0 ∷ beforeDot (drop (i + 1) text)
+  pub before-more : i < length text → isDot (getD text i 0) ≡ false
+      → beforeDot (drop i text) ≡ getD text i 0 ∷ beforeDot (drop (i + 1) text)
   unfolding beforeDot
   before-more h e =
-      let by : beforeDot (drop i text) ≡ cond (isDot (getD text i 0)) [] (getD text i 0 ∷ beforeDot (drop (i + 1) text)) = at-drop-more beforeDot text i 0 h in
+      let by : beforeDot (drop i text) ≡ cond (isDot (getD text i 0)) [] (getD text i 0 ∷ beforeDot (drop (i + 1) text)) =
+      at-drop-more beforeDot text i 0 h in
       by ∙ ap (λ v. cond v [] (getD text i 0 ∷ beforeDot (drop (i + 1) text))) e
 
   pub before-dot : i < length text → isDot (getD text i 0) ≡ true → beforeDot (drop i text) ≡ []
   unfolding beforeDot
   before-dot h e =
-      let by : beforeDot (drop i text) ≡ cond (isDot (getD text i 0)) [] (getD text i 0 ∷ beforeDot (drop (i + 1) text)) = at-drop-more beforeDot text i 0 h in
+      let by : beforeDot (drop i text) ≡ cond (isDot (getD text i 0)) [] (getD text i 0 ∷ beforeDot (drop (i + 1) text)) =
+      at-drop-more beforeDot text i 0 h in
       by ∙ ap (λ v. cond v [] (getD text i 0 ∷ beforeDot (drop (i + 1) text))) e
 
   pub before-end : length text ≤ i → beforeDot (drop i text) ≡ []
@@ -58,7 +63,8 @@ module _ (text : List ℕ) (i : ℕ) where
   before-end h = at-drop-all beforeDot text i h
 
 -- the digits' value, one digit on
-pub value-more : (digits : List ℕ) (i : ℕ) → i < length digits → decimalValue (take (i + 1) digits) ≡ decimalValue (take i digits) * 10 + (getD digits i 0 - 48)
+pub value-more : (digits : List ℕ) (i : ℕ) → i < length digits
+    → decimalValue (take (i + 1) digits) ≡ decimalValue (take i digits) * 10 + (getD digits i 0 - 48)
 value-more digits i h =
     let f : ℕ → ℕ = λ byte. byte - 48 in
     let long = length-map digits f in
@@ -76,7 +82,8 @@ unfolding beforeDot
 take-before [] = refl
 take-before (byte ∷ rest) = go (isDot byte) (take-before rest)
   where
-    go : (v : Bool) → take (length (beforeDot rest)) rest ≡ beforeDot rest → take (length (cond v [] (byte ∷ beforeDot rest))) (byte ∷ rest) ≡ cond v [] (byte ∷ beforeDot rest)
+    go : (v : Bool) → take (length (beforeDot rest)) rest ≡ beforeDot rest
+        → take (length (cond v [] (byte ∷ beforeDot rest))) (byte ∷ rest) ≡ cond v [] (byte ∷ beforeDot rest)
     go true e = refl
     go false e = ap (λ l. byte ∷ l) e
 
@@ -90,22 +97,28 @@ before-within (byte ∷ rest) = go (isDot byte) (before-within rest)
     go false h = omega arith
 
 -- the last piece: no dot is left
-pub pieces-last : (offset : ℕ) (text : List ℕ) → length (beforeDot text) ≡ length text → piecesFrom offset text ≡ piece offset (beforeDot text) ∷ []
+pub pieces-last : (offset : ℕ) (text : List ℕ) → length (beforeDot text) ≡ length text
+    → piecesFrom offset text ≡ piece offset (beforeDot text) ∷ []
 unfolding beforeDot piecesFrom
 pieces-last offset [] e = refl
 pieces-last offset (byte ∷ rest) e = go (isDot byte) e (pieces-last (offset + 1) rest)
   where
-    go : (v : Bool) → length (cond v [] (byte ∷ beforeDot rest)) ≡ length (byte ∷ rest) → (length (beforeDot rest) ≡ length rest → piecesFrom (offset + 1) rest ≡ piece (offset + 1) (beforeDot rest) ∷ []) → cond v (piece offset [] ∷ piecesFrom (offset + 1) rest) (longer offset byte (piecesFrom (offset + 1) rest)) ≡ piece offset (cond v [] (byte ∷ beforeDot rest)) ∷ []
+    go : (v : Bool) → length (cond v [] (byte ∷ beforeDot rest)) ≡ length (byte ∷ rest)
+        → (length (beforeDot rest) ≡ length rest → piecesFrom (offset + 1) rest ≡ piece (offset + 1) (beforeDot rest) ∷ [])
+        → cond v (piece offset [] ∷ piecesFrom (offset + 1) rest) (longer offset byte (piecesFrom (offset + 1) rest)) ≡ piece offset (cond v [] (byte ∷ beforeDot rest)) ∷ []
     go true h ih = absurd (omega arith)
     go false h ih = ap (longer offset byte) (ih (omega arith))
 
 -- a piece with a dot behind it
-pub pieces-next : (offset : ℕ) (text : List ℕ) → length (beforeDot text) < length text → piecesFrom offset text ≡ piece offset (beforeDot text) ∷ piecesFrom (offset + length (beforeDot text) + 1) (drop (length (beforeDot text) + 1) text)
+pub pieces-next : (offset : ℕ) (text : List ℕ) → length (beforeDot text) < length text
+    → piecesFrom offset text ≡ piece offset (beforeDot text) ∷ piecesFrom (offset + length (beforeDot text) + 1) (drop (length (beforeDot text) + 1) text)
 unfolding beforeDot piecesFrom
 pieces-next offset [] h = absurd (omega arith)
 pieces-next offset (byte ∷ rest) h = go (isDot byte) h (pieces-next (offset + 1) rest)
   where
-    go : (v : Bool) → length (cond v [] (byte ∷ beforeDot rest)) < length (byte ∷ rest) → (length (beforeDot rest) < length rest → piecesFrom (offset + 1) rest ≡ piece (offset + 1) (beforeDot rest) ∷ piecesFrom (offset + 1 + length (beforeDot rest) + 1) (drop (length (beforeDot rest) + 1) rest)) → cond v (piece offset [] ∷ piecesFrom (offset + 1) rest) (longer offset byte (piecesFrom (offset + 1) rest)) ≡ piece offset (cond v [] (byte ∷ beforeDot rest)) ∷ piecesFrom (offset + length (cond v [] (byte ∷ beforeDot rest)) + 1) (drop (length (cond v [] (byte ∷ beforeDot rest)) + 1) (byte ∷ rest))
+    go : (v : Bool) → length (cond v [] (byte ∷ beforeDot rest)) < length (byte ∷ rest)
+        → (length (beforeDot rest) < length rest → piecesFrom (offset + 1) rest ≡ piece (offset + 1) (beforeDot rest) ∷ piecesFrom (offset + 1 + length (beforeDot rest) + 1) (drop (length (beforeDot rest) + 1) rest))
+        → cond v (piece offset [] ∷ piecesFrom (offset + 1) rest) (longer offset byte (piecesFrom (offset + 1) rest)) ≡ piece offset (cond v [] (byte ∷ beforeDot rest)) ∷ piecesFrom (offset + length (cond v [] (byte ∷ beforeDot rest)) + 1) (drop (length (cond v [] (byte ∷ beforeDot rest)) + 1) (byte ∷ rest))
     go true h ih = ap (λ n. piece offset [] ∷ piecesFrom n rest) (omega arith)
     go false h ih =
         let n = length (beforeDot rest) in
@@ -119,21 +132,25 @@ module _ (text : List ℕ) (at : ℕ) (inside : at ≤ length text) (done : List
   abbrev pub numberHere : Number
   numberHere = numberIn (piece at (beforeDot (drop at text)))
 
-  pub digits-here : (end : ℕ) → end ≡ at + length (beforeDot (drop at text)) → take (end - at) (drop at text) ≡ beforeDot (drop at text)
+  pub digits-here : (end : ℕ) → end ≡ at + length (beforeDot (drop at text))
+      → take (end - at) (drop at text) ≡ beforeDot (drop at text)
   digits-here end e =
       let n : end - at ≡ length (beforeDot (drop at text)) = omega arith in
       ap (λ m. take m (drop at text)) n ∙ take-before (drop at text)
 
-  pub numbers-next : (end : ℕ) → end ≡ at + length (beforeDot (drop at text)) → end < length text → (done ++ numberHere ∷ []) ++ numbersFrom (end + 1) (drop (end + 1) text) ≡ done ++ numbersFrom at (drop at text)
+  pub numbers-next : (end : ℕ) → end ≡ at + length (beforeDot (drop at text)) → end < length text
+      → (done ++ numberHere ∷ []) ++ numbersFrom (end + 1) (drop (end + 1) text) ≡ done ++ numbersFrom at (drop at text)
   numbers-next end e more =
       let n = length (beforeDot (drop at text)) in
       let next = pieces-next at (drop at text) (omega (arith, length-drop at text)) in
       let ends : at + n + 1 ≡ end + 1 = omega arith in
       let ends′ : at + (n + 1) ≡ end + 1 = omega arith in
       let left : drop (n + 1) (drop at text) ≡ drop (end + 1) text = drop-drop (n + 1) at text ∙ ap (λ m. drop m text) ends′ in
-      append-assoc done (numberHere ∷ []) (numbersFrom (end + 1) (drop (end + 1) text)) ∙ sym (ap (λ l. done ++ map numberIn l) next ∙ λ k. done ++ numberHere ∷ numbersFrom (ends k) (left k))
+      append-assoc done (numberHere ∷ []) (numbersFrom (end + 1) (drop (end + 1) text))
+      ∙ sym (ap (λ l. done ++ map numberIn l) next ∙ λ k. done ++ numberHere ∷ numbersFrom (ends k) (left k))
 
-  pub numbers-last : (end : ℕ) → end ≡ at + length (beforeDot (drop at text)) → end ≡ length text → done ++ numberHere ∷ [] ≡ done ++ numbersFrom at (drop at text)
+  pub numbers-last : (end : ℕ) → end ≡ at + length (beforeDot (drop at text)) → end ≡ length text
+      → done ++ numberHere ∷ [] ≡ done ++ numbersFrom at (drop at text)
   numbers-last end e all =
       let last = pieces-last at (drop at text) (omega (arith, length-drop at text)) in
       sym (ap (λ l. done ++ map numberIn l) last)

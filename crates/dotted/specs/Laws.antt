@@ -23,7 +23,8 @@ Writes text arcs = (isIdentifier arcs ≡ true) × (drop (prefixLength text) tex
 
 -- A text is read as an identifier exactly when it is that identifier's text, after any prefix.
 abbrev pub Accepts-exactly : List ℕ → Type 0
-Accepts-exactly text = (arcs : List ℕ) → (readDotted text ≡ Ok arcs → Writes text arcs) × (Writes text arcs → readDotted text ≡ Ok arcs)
+Accepts-exactly text =
+    (arcs : List ℕ) → (readDotted text ≡ Ok arcs → Writes text arcs) × (Writes text arcs → readDotted text ≡ Ok arcs)
 
 -- What stands in the page from a place to an end is read as these arcs.
 abbrev pub Reads-back : List ℕ → ℕ → ℕ → List ℕ → Type 0
@@ -31,7 +32,11 @@ Reads-back page place end arcs = readDotted (between place end page) ≡ Ok arcs
 
 -- Two texts without a prefix that read to one identifier are equal.
 abbrev pub One-text : Type 0
-One-text = (one other arcs : List ℕ) → prefixLength one ≡ 0 → prefixLength other ≡ 0 → readDotted one ≡ Ok arcs → readDotted other ≡ Ok arcs → one ≡ other
+One-text =
+    (one other arcs : List ℕ)
+    → prefixLength one ≡ 0 → prefixLength other ≡ 0
+    → readDotted one ≡ Ok arcs → readDotted other ≡ Ok arcs
+    → one ≡ other
 
 -- the offset of a fault, so many bytes further on; the count of arcs is at no byte, and stays at 0
 abbrev pub offsetFurther : ℕ → Refusal → ℕ → ℕ
@@ -48,7 +53,10 @@ further bytes fault = faultAt (fault .refusal) (offsetFurther bytes (fault .refu
 -- A text that is the prefix and then a rest, which does not itself begin with it, is read as the rest is,
 -- except that faults at a byte are further on by the prefix's length.
 abbrev pub Prefixed : List ℕ → Type 0
-Prefixed text = (rest : List ℕ) → prefixLength rest ≡ 0 → text ≡ prefix ++ rest → readDotted text ≡ mapped (λ arcs. arcs) (further (length prefix)) (readDotted rest)
+Prefixed text =
+    (rest : List ℕ)
+    → prefixLength rest ≡ 0 → text ≡ prefix ++ rest
+    → readDotted text ≡ mapped (λ arcs. arcs) (further (length prefix)) (readDotted rest)
 
 -- So it is with every text.
 abbrev pub Prefix-moves-faults : Type 0

@@ -1,8 +1,8 @@
 -- What a collector knows after one number more, and what follows at the end.
-use Prim.Native.Nat.{ℕ, _+_, _≤_, _<_, min, suc}
-use mathlib.Core.Bool.{Bool, true, false, cond, not, _&&_}
+use Prim.Native.Nat.{ℕ, _+_, _≤_, _<_, min}
+use mathlib.Core.Bool.{Bool, true, false, cond, not}
 use mathlib.Core.List.{List, [], _∷_, _++_, map}
-use mathlib.Core.Path.{_≡_, refl, sym, ap, _∙_}
+use mathlib.Core.Path.{_≡_, sym, ap, _∙_}
 use native.Mathlib.Omega.{arith}
 use lib.ListN.{length, take, set, getD}
 use lib.Dec.{ltb}
@@ -10,7 +10,7 @@ use Rattle.std.specs.Options.{isSome, orOther, valueOr}
 use Rattle.std.specs.declared.option.Option.{Option}
 use Rattle.std.specs.declared.option.Option.the-variants.{Some, None}
 use Rattle.std.specs.declared.result.Result.the-variants.{Ok, Err}
-use Rattle.std.proofs.shelf.Lists.{length-map, length-push, length-take, map-push, set-past, take-all, take-append-le, take-more-set, getD-take}
+use Rattle.std.proofs.shelf.Lists.{length-map, length-push, map-push, set-past, take-all, take-append-le, take-more-set, getD-take}
 use mathlib.Core.Logic.{⊎-elim}
 use Rattle.std.proofs.shelf.Tests.{cases-lt, cond-both}
 use Rattle.oid.specs.Collected.{Collected, numeralOf, storedArc}
@@ -29,7 +29,8 @@ abbrev Holds : List ℕ → List ℕ → Type 0
 Holds places list = take (length list) places ≡ take mostArcs list
 
 -- one more: in its place, or nowhere if no place is left
-pub holds-more : (places list : List ℕ) (n x : ℕ) → n ≡ min (length list) (mostArcs + 1) → length places ≡ mostArcs → Holds places list → Holds (set places n x) (list ++ x ∷ [])
+pub holds-more : (places list : List ℕ) (n x : ℕ) → n ≡ min (length list) (mostArcs + 1)
+    → length places ≡ mostArcs → Holds places list → Holds (set places n x) (list ++ x ∷ [])
 holds-more places list n x at whole h = ⊎-elim inside past (cases-lt (length list) mostArcs)
   where
     long : length (list ++ x ∷ []) ≡ length list + 1
@@ -56,7 +57,10 @@ pub getD-fronts : (xs ys : List ℕ) (n m k : ℕ) → take n xs ≡ take m ys �
 getD-fronts xs ys n m k e low high = sym (getD-take n xs k 0 low) ∙ ap (λ l. getD l k 0) e ∙ getD-take m ys k 0 high
 
 -- the same of what is stored of each number
-pub holds-mapped : (f : Number → ℕ) (places : List ℕ) (numbers : List Number) (n : ℕ) (number : Number) → n ≡ min (length numbers) (mostArcs + 1) → length places ≡ mostArcs → take (length numbers) places ≡ take mostArcs (map f numbers) → take (length (numbers ++ number ∷ [])) (set places n (f number)) ≡ take mostArcs (map f (numbers ++ number ∷ []))
+pub holds-mapped : (f : Number → ℕ) (places : List ℕ) (numbers : List Number) (n : ℕ) (number : Number)
+    → n ≡ min (length numbers) (mostArcs + 1) → length places ≡ mostArcs
+    → take (length numbers) places ≡ take mostArcs (map f numbers)
+    → take (length (numbers ++ number ∷ [])) (set places n (f number)) ≡ take mostArcs (map f (numbers ++ number ∷ []))
 holds-mapped f places numbers n number at whole h =
     let as-many = length-map numbers f in
     let held : Holds places (map f numbers) = ap (λ k. take k places) as-many ∙ h in
@@ -75,16 +79,34 @@ abbrev offsetIf : Bool → ℕ → Option ℕ
 offsetIf test offset = cond test (Some offset) None
 
 -- a collector after one number more
-pub collected-more : (before after : Collector) (numeral : Numeral) (none : Bool) → after .count ≡ min (before .count + 1) (mostArcs + 1) → after .arcs ≡ set (before .arcs) (before .count) (valueOr (numeral .arc) 0) → after .offsets ≡ set (before .offsets) (before .count) (numeral .offset) → after .padded ≡ orOther (before .padded) (cond (numeral .padded) (Some (numeral .offset)) None) → isSome (numeral .arc) ≡ not none → after .large ≡ orOther (before .large) (cond none (Some (numeral .offset)) None) → (numbers : List Number) (number : Number) → numeral ≡ numeralOf number → Collected before numbers → Collected after (numbers ++ number ∷ [])
+pub collected-more : (before after : Collector) (numeral : Numeral) (none : Bool)
+    → after .count ≡ min (before .count + 1) (mostArcs + 1)
+    → after .arcs ≡ set (before .arcs) (before .count) (valueOr (numeral .arc) 0)
+    → after .offsets ≡ set (before .offsets) (before .count) (numeral .offset)
+    → after .padded ≡ orOther (before .padded) (cond (numeral .padded) (Some (numeral .offset)) None)
+    → isSome (numeral .arc) ≡ not none
+    → after .large ≡ orOther (before .large) (cond none (Some (numeral .offset)) None)
+    → (numbers : List Number) (number : Number) → numeral ≡ numeralOf number → Collected before numbers
+    → Collected after (numbers ++ number ∷ [])
 collected-more before after numeral none count arcs places padded some large numbers number seen known =
     let all = length (numbers ++ number ∷ []) in
-    let is-large : none ≡ tooLarge number = none-is none (isSome (numeral .arc)) some ∙ ap not (ap (λ n. isSome (n .arc)) seen ∙ isArc-is (number .value)) in
+    let is-large : none ≡ tooLarge number =
+    none-is none (isSome (numeral .arc)) some
+    ∙ ap not (ap (λ n. isSome (n .arc)) seen ∙ isArc-is (number .value)) in
     record {
       count = count ∙ omega (arith, known .count, length-push numbers number);
-      arcs = ap (take all) (arcs ∙ ap (λ n. set (before .arcs) (before .count) (valueOr (n .arc) 0)) seen) ∙ holds-mapped storedArc (before .arcs) numbers (before .count) number (known .count) (before .«arc_places») (known .arcs);
-      places = ap (take all) (places ∙ ap (λ n. set (before .offsets) (before .count) (n .offset)) seen) ∙ holds-mapped (λ n. n .offset) (before .offsets) numbers (before .count) number (known .count) (before .«offset_places») (known .places);
-      padded = padded ∙ (λ i. orOther (known .padded i) (offsetIf (seen i .padded) (seen i .offset))) ∙ sym (firstAt-push (λ n. n .padded) numbers number);
-      large = large ∙ (λ i. orOther (known .large i) (offsetIf (is-large i) (seen i .offset))) ∙ sym (firstAt-push tooLarge numbers number);
+      arcs =
+          ap (take all) (arcs ∙ ap (λ n. set (before .arcs) (before .count) (valueOr (n .arc) 0)) seen)
+          ∙ holds-mapped storedArc (before .arcs) numbers (before .count) number (known .count) (before .«arc_places») (known .arcs);
+      places =
+          ap (take all) (places ∙ ap (λ n. set (before .offsets) (before .count) (n .offset)) seen)
+          ∙ holds-mapped (λ n. n .offset) (before .offsets) numbers (before .count) number (known .count) (before .«offset_places») (known .places);
+      padded =
+          padded ∙ (λ i. orOther (known .padded i) (offsetIf (seen i .padded) (seen i .offset)))
+          ∙ sym (firstAt-push (λ n. n .padded) numbers number);
+      large =
+          large ∙ (λ i. orOther (known .large i) (offsetIf (is-large i) (seen i .offset)))
+          ∙ sym (firstAt-push tooLarge numbers number);
     }
 
 -- at the end, where no number has a leading zero or is too large, and there are 2 to 16
@@ -112,17 +134,25 @@ module _ (collector : Collector) (numbers : List Number) (known : Collected coll
       let long = length-map numbers (λ n. n .value) in
       identifier-starts (values numbers) (omega (arith, long, count-is)) (omega (arith, long, count-is)) (none-large numbers large-none .1)
 
-  pub finish-some : (arcs : List ℕ) → Some arcs ≡ identified (take (collector .count) (collector .arcs)) → Ok arcs ≡ readNumbers numbers
+  pub finish-some : (arcs : List ℕ) → Some arcs ≡ identified (take (collector .count) (collector .arcs))
+      → Ok arcs ≡ readNumbers numbers
   finish-some arcs e =
       let found = identified-some _ arcs e in
       let well = sym starts ∙ sym (ap isIdentifier arcs-are) ∙ found .0 in
       ap Ok (found .1 ∙ arcs-are) ∙ sym (read-all numbers zero-none large-none enough well)
 
-  pub finish-none : (offset : ℕ) → None ≡ identified (take (collector .count) (collector .arcs)) → offset ≡ getD (collector .offsets) (cond (ltb 2 (getD (collector .arcs) 0 0)) 0 1) 0 → Err (faultAt FirstArcs offset) ≡ readNumbers numbers
+  pub finish-none : (offset : ℕ) → None ≡ identified (take (collector .count) (collector .arcs))
+      → offset ≡ getD (collector .offsets) (cond (ltb 2 (getD (collector .arcs) 0 0)) 0 1) 0
+      → Err (faultAt FirstArcs offset) ≡ readNumbers numbers
   finish-none offset e at =
       let ill = sym starts ∙ sym (ap isIdentifier arcs-are) ∙ identified-none _ e in
-      let first : getD (collector .arcs) 0 0 ≡ getD (values numbers) 0 0 = sym (getD-take (collector .count) (collector .arcs) 0 0 (omega arith)) ∙ ap (λ l. getD l 0 0) arcs-are in
+      let first : getD (collector .arcs) 0 0 ≡ getD (values numbers) 0 0 =
+      sym (getD-take (collector .count) (collector .arcs) 0 0 (omega arith))
+      ∙ ap (λ l. getD l 0 0) arcs-are in
       let place : ℕ = cond (ltb 2 (getD (values numbers) 0 0)) 0 1 in
-      let small : place ≤ 1 = cond-both (ltb 2 (getD (values numbers) 0 0)) 0 1 (λ n. n ≤ 1) (λ _. omega arith) (λ _. omega arith) in
-      let there : getD (collector .offsets) place 0 ≡ getD (offsets numbers) place 0 = getD-fronts (collector .offsets) (offsets numbers) (length numbers) mostArcs place (known .places) (omega (arith, count-is)) (omega arith) in
-      ap (λ n. Err (faultAt FirstArcs n)) (at ∙ ap (λ n. getD (collector .offsets) (cond (ltb 2 n) 0 1) 0) first ∙ there) ∙ sym (read-start numbers zero-none large-none enough ill)
+      let small : place ≤ 1 =
+      cond-both (ltb 2 (getD (values numbers) 0 0)) 0 1 (λ n. n ≤ 1) (λ _. omega arith) (λ _. omega arith) in
+      let there : getD (collector .offsets) place 0 ≡ getD (offsets numbers) place 0 =
+      getD-fronts (collector .offsets) (offsets numbers) (length numbers) mostArcs place (known .places) (omega (arith, count-is)) (omega arith) in
+      ap (λ n. Err (faultAt FirstArcs n)) (at ∙ ap (λ n. getD (collector .offsets) (cond (ltb 2 n) 0 1) 0) first ∙ there)
+      ∙ sym (read-start numbers zero-none large-none enough ill)

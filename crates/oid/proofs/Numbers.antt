@@ -1,6 +1,6 @@
 -- Laws of the questions about numbers: what each outcome of them makes of the reading.
 use Prim.Native.Nat.{ℕ, _≤_, _<_}
-use mathlib.Core.Bool.{Bool, true, false, cond, not, _&&_}
+use mathlib.Core.Bool.{Bool, true, false, cond, _&&_}
 use mathlib.Core.List.{List, [], _∷_, _++_, map}
 use mathlib.Core.Path.{_≡_, refl, sym, ap, _∙_}
 use native.Mathlib.Omega.{arith}
@@ -12,8 +12,8 @@ use Rattle.std.specs.declared.option.Option.the-variants.{Some, None}
 use Rattle.std.specs.declared.result.Result.{Result}
 use Rattle.std.specs.declared.result.Result.the-variants.{Ok, Err}
 use Rattle.std.proofs.shelf.Lists.{length-map}
-use Rattle.std.proofs.shelf.Tests.{and-parts, and-from, leb-true, and-left, and-right, le-leb, lt-leb, cond-true, cond-false, not-false}
-use Rattle.oid.specs.Arcs.{isArc, arcOf}
+use Rattle.std.proofs.shelf.Tests.{and-parts, and-from, leb-true, and-left, and-right, le-leb, lt-leb, not-false}
+use Rattle.oid.specs.Arcs.{isArc}
 use Rattle.oid.specs.Collected.{storedArc}
 use Rattle.oid.specs.Numbers.{Number, values, offsets, tooLarge, firstAt, leadingZeros, largeNumbers, wrongCount, wrongStart, readNumbers}
 use Rattle.oid.specs.Refusals.{faultAt, ask}
@@ -35,17 +35,21 @@ too-few n h = and-left (leb fewestArcs n) _ (lt-leb fewestArcs n h)
 pub too-many : (n : ℕ) → mostArcs < n → fewOrMany n ≡ false
 too-many n h = and-right (leb fewestArcs n) _ (lt-leb n mostArcs h)
 
-pub firstAt-push : (test : Number → Bool) (numbers : List Number) (number : Number) → firstAt test (numbers ++ number ∷ []) ≡ orOther (firstAt test numbers) (cond (test number) (Some (number .offset)) None)
+pub firstAt-push : (test : Number → Bool) (numbers : List Number) (number : Number)
+    → firstAt test (numbers ++ number ∷ []) ≡ orOther (firstAt test numbers) (cond (test number) (Some (number .offset)) None)
 unfolding firstAt
 firstAt-push test [] number = refl
 firstAt-push test (first ∷ numbers) number = go (test first) (firstAt-push test numbers number)
   where
-    go : (v : Bool) → firstAt test (numbers ++ number ∷ []) ≡ orOther (firstAt test numbers) (cond (test number) (Some (number .offset)) None) → cond v (Some (first .offset)) (firstAt test (numbers ++ number ∷ [])) ≡ orOther (cond v (Some (first .offset)) (firstAt test numbers)) (cond (test number) (Some (number .offset)) None)
+    go : (v : Bool)
+        → firstAt test (numbers ++ number ∷ []) ≡ orOther (firstAt test numbers) (cond (test number) (Some (number .offset)) None)
+        → cond v (Some (first .offset)) (firstAt test (numbers ++ number ∷ [])) ≡ orOther (cond v (Some (first .offset)) (firstAt test numbers)) (cond (test number) (Some (number .offset)) None)
     go true e = refl
     go false e = e
 
 -- the test picks no number of the list: neither its first one, nor one of the others
-pub firstAt-none : (test : Number → Bool) (first : Number) (numbers : List Number) → firstAt test (first ∷ numbers) ≡ None → (test first ≡ false) × (firstAt test numbers ≡ None)
+pub firstAt-none : (test : Number → Bool) (first : Number) (numbers : List Number)
+    → firstAt test (first ∷ numbers) ≡ None → (test first ≡ false) × (firstAt test numbers ≡ None)
 unfolding firstAt
 firstAt-none test first numbers h = go (test first) h
   where
@@ -54,7 +58,8 @@ firstAt-none test first numbers h = go (test first) h
     go false e = (refl, e)
 
 -- no number is too large: each is stored as it is, and each is an arc
-pub none-large : (numbers : List Number) → firstAt tooLarge numbers ≡ None → (map storedArc numbers ≡ values numbers) × (allArcs (values numbers) ≡ true)
+pub none-large : (numbers : List Number) → firstAt tooLarge numbers ≡ None
+    → (map storedArc numbers ≡ values numbers) × (allArcs (values numbers) ≡ true)
 unfolding allArcs
 none-large [] h = (refl, refl)
 none-large (number ∷ numbers) h =
@@ -65,7 +70,8 @@ none-large (number ∷ numbers) h =
     ((λ i. stored i ∷ others .0 i), and-from (isArc (number .value)) _ arc (others .1))
 
 module _ (numbers : List Number) where
-  pub read-zero : (at : ℕ) → firstAt (λ number. number .padded) numbers ≡ Some at → readNumbers numbers ≡ Err (faultAt LeadingZero at)
+  pub read-zero : (at : ℕ) → firstAt (λ number. number .padded) numbers ≡ Some at
+      → readNumbers numbers ≡ Err (faultAt LeadingZero at)
   unfolding readNumbers
   read-zero at e = rw e refl
 
@@ -80,16 +86,19 @@ module _ (numbers : List Number) where
       read-count e = rw (no-zero, no-large, e) refl
 
       module _ (enough : fewOrMany (length numbers) ≡ true) where
-        pub read-start : startsWell (getD (values numbers) 0 0) (getD (values numbers) 1 0) ≡ false → readNumbers numbers ≡ Err (faultAt FirstArcs (getD (offsets numbers) (cond (ltb 2 (getD (values numbers) 0 0)) 0 1) 0))
+        pub read-start : startsWell (getD (values numbers) 0 0) (getD (values numbers) 1 0) ≡ false
+            → readNumbers numbers ≡ Err (faultAt FirstArcs (getD (offsets numbers) (cond (ltb 2 (getD (values numbers) 0 0)) 0 1) 0))
         unfolding readNumbers
         read-start e = rw (no-zero, no-large, enough, e) refl
 
-        pub read-all : startsWell (getD (values numbers) 0 0) (getD (values numbers) 1 0) ≡ true → readNumbers numbers ≡ Ok (values numbers)
+        pub read-all : startsWell (getD (values numbers) 0 0) (getD (values numbers) 1 0) ≡ true
+            → readNumbers numbers ≡ Ok (values numbers)
         unfolding readNumbers
         read-all e = rw (no-zero, no-large, enough, e) refl
 
 -- A question that was put before an accepted reading said yes.
-pub asked : {A : Type 0} (question : Option Fault) (others : Result A Fault) (value : A) → ask question others ≡ Ok value → (question ≡ None) × (others ≡ Ok value)
+pub asked : {A : Type 0} (question : Option Fault) (others : Result A Fault) (value : A)
+    → ask question others ≡ Ok value → (question ≡ None) × (others ≡ Ok value)
 asked None others value e = (refl, e)
 asked (Some fault) others value e = let z : _≡_ {A = ℕ} 0 1 = cc in absurd (omega arith)
 
@@ -116,13 +125,17 @@ accepted numbers arcs e =
     let count = asked (wrongCount numbers) _ arcs (larges .1) in
     let start = asked (wrongStart numbers) _ arcs (count .1) in
     let large = none-mapped (faultAt ArcTooLarge) (firstAt tooLarge numbers) (larges .0) in
-    let counts = and-parts (leb fewestArcs (length numbers)) (leb (length numbers) mostArcs) (yes-cond (fewOrMany (length numbers)) _ (count .0)) in
+    let counts =
+    and-parts (leb fewestArcs (length numbers)) (leb (length numbers) mostArcs) (yes-cond (fewOrMany (length numbers)) _ (count .0)) in
     let long = length-map numbers (λ number. number .value) in
-    let starts = identifier-starts (values numbers) (omega (arith, leb-true fewestArcs (length numbers) (counts .0))) (omega (arith, leb-true (length numbers) mostArcs (counts .1))) (none-large numbers large .1) in
+    let starts =
+    identifier-starts (values numbers) (omega (arith, leb-true fewestArcs (length numbers) (counts .0))) (omega (arith, leb-true (length numbers) mostArcs (counts .1))) (none-large numbers large .1) in
     let same : values numbers ≡ arcs = cc (start .1) in
     record {
       no-zero = none-mapped (faultAt LeadingZero) (firstAt (λ number. number .padded) numbers) (zeros .0);
       no-large = large;
-      rule = ap isIdentifier (sym same) ∙ starts ∙ yes-cond (startsWell (getD (values numbers) 0 0) (getD (values numbers) 1 0)) _ (start .0);
+      rule =
+          ap isIdentifier (sym same) ∙ starts
+          ∙ yes-cond (startsWell (getD (values numbers) 0 0) (getD (values numbers) 1 0)) _ (start .0);
       read = same;
     }

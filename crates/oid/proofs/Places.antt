@@ -2,9 +2,8 @@
 use Prim.Native.Nat.{ℕ, _+_, _-_, _≤_, _<_, suc}
 use mathlib.Core.Bool.{true}
 use mathlib.Core.List.{List, [], _∷_, _++_, append-assoc}
-use mathlib.Core.Path.{_≡_, refl, sym, ap, _∙_}
+use mathlib.Core.Path.{_≡_, sym, ap, _∙_}
 use native.Mathlib.Omega.{arith}
-use native.Mathlib.Numerals.{add-one}
 use lib.ListN.{length, take, drop, set, replicate}
 use denote.Struct.Record.{values-one}
 use Rattle.std.proofs.shelf.Lists.{length-append, length-replicate, length-push, take-take, length-take-le, take-at, drop-at, take-append-drop, drop-drop, drop-replicate, set-split}
@@ -25,7 +24,8 @@ pub drop-laid : (places list : List ℕ) (len : ℕ) → Laid places len list �
 drop-laid places list len h = ap (drop len) (h .1) ∙ drop-at list _ len (sym (h .0))
 
 -- the four facts that the type asks
-pub owed : (places list : List ℕ) (len : ℕ) → Laid places len list → Keeps list → (length places ≡ mostArcs) × ((len ≤ mostArcs) × ((isIdentifier (take len places) ≡ true) × ((drop len places ≡ replicate (mostArcs - len) 0) × Unit {0})))
+pub owed : (places list : List ℕ) (len : ℕ) → Laid places len list → Keeps list
+    → (length places ≡ mostArcs) × ((len ≤ mostArcs) × ((isIdentifier (take len places) ≡ true) × ((drop len places ≡ replicate (mostArcs - len) 0) × Unit {0})))
 owed places list len h k =
     let short = k .short in
     let e = h .0 in
@@ -55,7 +55,8 @@ module _ (i : Identifier) where
       let cut = set-split (i .arcs) (i .len) arc (omega arith) in
       let next : suc (i .len) ≡ i .len + 1 = omega arith in
       let fewer : mostArcs - i .len - 1 ≡ mostArcs - (i .len + 1) = omega arith in
-      let rest : drop (suc (i .len)) (i .arcs) ≡ replicate (mostArcs - (i .len + 1)) 0 = ap (λ n. drop n (i .arcs)) next ∙ after 1 ∙ ap (λ n. replicate n 0) fewer in
+      let rest : drop (suc (i .len)) (i .arcs) ≡ replicate (mostArcs - (i .len + 1)) 0 =
+      ap (λ n. drop n (i .arcs)) next ∙ after 1 ∙ ap (λ n. replicate n 0) fewer in
       let regroup = append-assoc (arcsOf i) (arc ∷ []) (replicate (mostArcs - (i .len + 1)) 0) in
       (omega (arith, len-is, length-push (arcsOf i) arc), cut ∙ ap (λ l. arcsOf i ++ arc ∷ l) rest ∙ sym regroup)
 
@@ -66,8 +67,10 @@ module _ (i : Identifier) where
       let cut = set-split (i .arcs) (i .len - 1) 0 (omega (arith, i .within)) in
       let back : suc (i .len - 1) ≡ i .len = omega arith in
       let more : suc (mostArcs - i .len) ≡ mostArcs - (i .len - 1) = omega (arith, i .within) in
-      let rest : 0 ∷ drop (suc (i .len - 1)) (i .arcs) ≡ replicate (mostArcs - (i .len - 1)) 0 = ap (λ n. 0 ∷ drop n (i .arcs)) back ∙ ap (λ l. 0 ∷ l) (i .rest) ∙ ap (λ n. replicate n 0) more in
-      let front : take (i .len - 1) (i .arcs) ≡ take (i .len - 1) (arcsOf i) = sym (take-take (i .len - 1) (i .len) (i .arcs) (omega arith)) in
+      let rest : 0 ∷ drop (suc (i .len - 1)) (i .arcs) ≡ replicate (mostArcs - (i .len - 1)) 0 =
+      ap (λ n. 0 ∷ drop n (i .arcs)) back ∙ ap (λ l. 0 ∷ l) (i .rest) ∙ ap (λ n. replicate n 0) more in
+      let front : take (i .len - 1) (i .arcs) ≡ take (i .len - 1) (arcsOf i) =
+      sym (take-take (i .len - 1) (i .len) (i .arcs) (omega arith)) in
       (sym (length-take-le (i .len - 1) (arcsOf i) (omega (arith, len-is))), cut ∙ (λ k. front k ++ rest k))
 
 pub same-from-arcs : (i j : Identifier) → arcsOf i ≡ arcsOf j → i ≡ j

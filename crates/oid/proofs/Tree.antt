@@ -1,15 +1,15 @@
 -- Laws of the tree's rule and of fronts, on lists of arcs.
-use Prim.Native.Nat.{ℕ, _+_, _-_, _≤_, _<_}
+use Prim.Native.Nat.{ℕ, _+_, _≤_, _<_}
 use mathlib.Core.Bool.{Bool, true, false, cond, _&&_}
 use mathlib.Core.List.{List, [], _∷_, _++_}
-use mathlib.Core.Path.{_≡_, refl, sym, ap, _∙_}
+use mathlib.Core.Path.{_≡_, refl, ap, _∙_}
 use native.Mathlib.Omega.{arith}
 use lib.Dec.{leb, eqb}
 use lib.ListN.{length, take, drop, getD}
 use Rattle.std.specs.declared.option.Option.the-variants.{Some, None}
 use Rattle.std.specs.Orderings.{Decides}
 use Rattle.std.proofs.shelf.Lists.{at-drop-more, length-push, length-take-le, getD-take, getD-append-left}
-use Rattle.std.proofs.shelf.Tests.{true≢false, both-ways, and-parts, and-from, eqb-true, eq-eqb, leb-true, le-leb}
+use Rattle.std.proofs.shelf.Tests.{both-ways, and-parts, and-from, eqb-true, eq-eqb, leb-true, le-leb}
 use Rattle.std.proofs.shelf.Ways.{same-from-decides}
 use Rattle.oid.specs.Arcs.{arcLimit, isArc}
 use Rattle.oid.specs.Tree.{fewestArcs, mostArcs, allArcs, startsWell, isIdentifier, identified, beginsWith}
@@ -60,16 +60,20 @@ allArcs-take (Prim.Native.Nat.suc n) (arc ∷ arcs) h =
     and-from (isArc arc) _ (p .0) (allArcs-take n arcs (p .1))
 
 -- the walk over a list of numbers: past an arc, and at the first number that is none
-pub allArcs-more : (numbers : List ℕ) (i : ℕ) → i < length numbers → isArc (getD numbers i 0) ≡ true → allArcs (drop i numbers) ≡ allArcs (drop (i + 1) numbers)
+pub allArcs-more : (numbers : List ℕ) (i : ℕ) → i < length numbers → isArc (getD numbers i 0) ≡ true
+    → allArcs (drop i numbers) ≡ allArcs (drop (i + 1) numbers)
 unfolding allArcs
 allArcs-more numbers i h a =
-    let e : allArcs (drop i numbers) ≡ (isArc (getD numbers i 0) && allArcs (drop (i + 1) numbers)) = at-drop-more allArcs numbers i 0 h in
+    let e : allArcs (drop i numbers) ≡ (isArc (getD numbers i 0) && allArcs (drop (i + 1) numbers)) =
+    at-drop-more allArcs numbers i 0 h in
     e ∙ ap (λ t. t && allArcs (drop (i + 1) numbers)) a
 
-pub allArcs-stop : (numbers : List ℕ) (i : ℕ) → i < length numbers → isArc (getD numbers i 0) ≡ false → allArcs (drop i numbers) ≡ false
+pub allArcs-stop : (numbers : List ℕ) (i : ℕ) → i < length numbers → isArc (getD numbers i 0) ≡ false
+    → allArcs (drop i numbers) ≡ false
 unfolding allArcs
 allArcs-stop numbers i h a =
-    let e : allArcs (drop i numbers) ≡ (isArc (getD numbers i 0) && allArcs (drop (i + 1) numbers)) = at-drop-more allArcs numbers i 0 h in
+    let e : allArcs (drop i numbers) ≡ (isArc (getD numbers i 0) && allArcs (drop (i + 1) numbers)) =
+    at-drop-more allArcs numbers i 0 h in
     e ∙ ap (λ t. t && allArcs (drop (i + 1) numbers)) a
 
 -- one arc more, where there is room for it
@@ -117,7 +121,9 @@ pub begins-decides : (list front : List ℕ) → Decides (beginsWith list front)
 begins-decides list front = (begins-front list front, λ e. rw e (front-begins front (drop (length front) list)))
 
 -- what a comparison of slices answers is `beginsWith`
-pub begins-is : (list front : List ℕ) (r : Bool) → (r ≡ true → list ≡ front ++ drop (length front) list) × ((rest : List ℕ) → list ≡ front ++ rest → r ≡ true) → r ≡ beginsWith list front
+pub begins-is : (list front : List ℕ) (r : Bool)
+    → (r ≡ true → list ≡ front ++ drop (length front) list) × ((rest : List ℕ) → list ≡ front ++ rest → r ≡ true)
+    → r ≡ beginsWith list front
 begins-is list front r h =
     same-from-decides r (beginsWith list front) (h .0, λ e. h .1 (drop (length front) list) e) (begins-decides list front)
 
@@ -137,9 +143,11 @@ identified-none list e = go (isIdentifier list) e
     go false h = refl
 
 -- a list of arcs of the right length is an identifier where it starts well
-pub identifier-starts : (arcs : List ℕ) → fewestArcs ≤ length arcs → length arcs ≤ mostArcs → allArcs arcs ≡ true → isIdentifier arcs ≡ startsWell (getD arcs 0 0) (getD arcs 1 0)
+pub identifier-starts : (arcs : List ℕ) → fewestArcs ≤ length arcs → length arcs ≤ mostArcs
+    → allArcs arcs ≡ true → isIdentifier arcs ≡ startsWell (getD arcs 0 0) (getD arcs 1 0)
 unfolding isIdentifier
-identifier-starts arcs low high each = rw (le-leb fewestArcs (length arcs) low, le-leb (length arcs) mostArcs high, each) (and-true (startsWell (getD arcs 0 0) (getD arcs 1 0)))
+identifier-starts arcs low high each =
+    rw (le-leb fewestArcs (length arcs) low, le-leb (length arcs) mostArcs high, each) (and-true (startsWell (getD arcs 0 0) (getD arcs 1 0)))
 
 -- 0.0 is an identifier
 pub keeps-lowest : Keeps (0 ∷ 0 ∷ [])

@@ -2,7 +2,7 @@
 use Prim.Native.Nat.{ℕ, _≤_, _<_, min}
 use mathlib.Core.Bool.{true, false}
 use mathlib.Core.List.{List, [], _∷_, _++_}
-use mathlib.Core.Path.{_≡_, refl, sym, ap, _∙_}
+use mathlib.Core.Path.{_≡_, sym, ap, _∙_}
 use native.Mathlib.Omega.{arith}
 use lib.Dec.{leb, ltb}
 use lib.ListN.{length, take}
@@ -28,7 +28,8 @@ module _ (bytes : List ℕ) (byte : ℕ) (kept : List ℕ) (same : kept ≡ take
 
     pub still-short : ltb lineLimit (length bytes) ≡ ltb lineLimit (length (bytes ++ byte ∷ []))
     still-short =
-        le-ltb lineLimit (length bytes) (omega (arith, few)) ∙ sym (le-ltb lineLimit (length (bytes ++ byte ∷ [])) (omega (arith, few, length-push bytes byte)))
+        le-ltb lineLimit (length bytes) (omega (arith, few))
+        ∙ sym (le-ltb lineLimit (length (bytes ++ byte ∷ [])) (omega (arith, few, length-push bytes byte)))
 
   module _ (full : lineLimit ≤ length kept) where
     pub kept-full : kept ≡ take lineLimit (bytes ++ byte ∷ [])
@@ -39,9 +40,12 @@ module _ (bytes : List ℕ) (byte : ℕ) (kept : List ℕ) (same : kept ≡ take
 
 -- the verdict on a line that is too long, and on any other
 pub verdict-long : (bytes : List ℕ) → ltb lineLimit (length bytes) ≡ true → verdictOn bytes ≡ None
-verdict-long bytes h = cond-false (leb (length bytes) lineLimit) _ _ (lt-leb (length bytes) lineLimit (ltb-true lineLimit (length bytes) h))
+verdict-long bytes h =
+    cond-false (leb (length bytes) lineLimit) _ _ (lt-leb (length bytes) lineLimit (ltb-true lineLimit (length bytes) h))
 
-pub verdict-short : (bytes kept : List ℕ) → kept ≡ take lineLimit bytes → ltb lineLimit (length bytes) ≡ false → Some (readDotted kept) ≡ verdictOn bytes
+pub verdict-short : (bytes kept : List ℕ) → kept ≡ take lineLimit bytes → ltb lineLimit (length bytes) ≡ false
+    → Some (readDotted kept) ≡ verdictOn bytes
 verdict-short bytes kept same h =
     let few = ltb-false lineLimit (length bytes) h in
-    ap (λ l. Some (readDotted l)) (same ∙ take-all lineLimit bytes few) ∙ sym (cond-true (leb (length bytes) lineLimit) _ _ (le-leb (length bytes) lineLimit few))
+    ap (λ l. Some (readDotted l)) (same ∙ take-all lineLimit bytes few)
+    ∙ sym (cond-true (leb (length bytes) lineLimit) _ _ (le-leb (length bytes) lineLimit few))

@@ -1,15 +1,12 @@
 // Giving a collector its numbers, and the answer of the shared questions.
 ghost use mathlib.Core.Bool.{cond};
-ghost use mathlib.Core.List.{List, [], _∷_, _++_};
+ghost use mathlib.Core.List.{[]};
 ghost use mathlib.Core.Path.{_≡_};
 ghost use lib.Dec.{ltb};
 ghost use lib.ListN.{getD, set};
 ghost use Prim.Native.Nat.{_+_, min};
-ghost use Rattle.std.specs.Results.{mapped};
 ghost use Rattle.std.specs.declared.option.Option.the-variants.{Some, None};
-ghost use Rattle.oid.specs.Collected.{Collected, numeralOf};
-ghost use Rattle.oid.specs.Meaning.{arcsOf};
-ghost use Rattle.oid.specs.Numbers.{Number, readNumbers};
+ghost use Rattle.oid.specs.Collected.{Collected, Adds, Finishes};
 ghost use Rattle.oid.specs.Tree.{mostArcs, lastRoot};
 use super::Collector;
 use crate::arc::Arc;
@@ -36,7 +33,7 @@ impl Collector {
 
     // One number more.
     pub fn add(&mut self, numeral: Numeral)
-        ensures { λ _. ⌜ ((numbers : List Number) (number : Number) → numeral ≡ numeralOf number → Collected (now (self .entry)) numbers → Collected (now (self .exit)) (numbers ++ number ∷ [])) ⌝ }
+        ensures { λ _. ⌜ Adds (now (self .entry)) numeral (now (self .exit)) ⌝ }
     {
         let offset = numeral.offset;
         self.put(numeral.arc.unwrap_or(0), offset);
@@ -62,7 +59,7 @@ impl Collector {
 
     // The identifier that the numbers stand for, or the first of the shared questions that says no.
     pub fn finish(&self) -> Result<Identifier, Fault>
-        ensures { λ r. ⌜ ((numbers : List Number) → Collected (now (self .entry)) numbers → mapped arcsOf (λ fault. fault) r ≡ readNumbers numbers) ⌝ }
+        ensures { λ r. ⌜ Finishes (now (self .entry)) r ⌝ }
     {
         if let Some(offset) = self.padded {
             return Err(Refusal::LeadingZero.at(offset));

@@ -1,4 +1,4 @@
-use mathlib.Core.Bool.{false, true}
+use mathlib.Core.Bool.{false}
 use Rattle.std.proofs.shelf.Tests.{both-ways}
 use mathlib.Core.Path.{refl}
 use native.Mathlib.Omega.{arith}

@@ -1,4 +1,4 @@
-use Prim.Native.Nat.{_+_, _-_, _/_, _<_}
+use Prim.Native.Nat.{_+_, _-_, _/_}
 use mathlib.Core.List.{_++_}
 use mathlib.Core.Path.{_≡_, ap, _∙_}
 use native.Mathlib.Omega.{arith}
@@ -43,5 +43,8 @@ returns c =
     let second : 1 ≡ c .loop-rest .at + 1 = omega arith in
     record {
       value = c .digit-count-count .ensures;
-      after = (λ k. set page (first k) (c .digit-2 .ensures k)) ∙ page-last rest page (omega arith) (omega arith) ∙ ap (λ n. decimal rest ++ drop n page) second ∙ c .loop-rest .inv .3;
+      after =
+          (λ k. set page (first k) (c .digit-2 .ensures k))
+          ∙ page-last rest page (omega arith) (omega arith)
+          ∙ ap (λ n. decimal rest ++ drop n page) second ∙ c .loop-rest .inv .3;
     }

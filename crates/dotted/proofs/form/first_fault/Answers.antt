@@ -1,6 +1,5 @@
 use Prim.Native.Nat.{_+_}
-use mathlib.Core.Bool.{false}
-use mathlib.Core.Path.{_≡_, sym, ap, _∙_}
+use mathlib.Core.Path.{sym, ap, _∙_}
 use native.Mathlib.Omega.{arith}
 use lib.ListN.{drop}
 use Rattle.dotted.specs.Form.{faultyFrom}
@@ -20,7 +19,8 @@ pub loop-i-again : need.loop-i-again
 loop-i-again c =
     let text = c .args .text .now in
     let more = faulty-more text (c .loop-i .i) (omega arith) (c .loop-i .after-digit) (sym (c .if-not-may-stand .ensures tt)) in
-    ap (λ v. faultyFrom (c .loop-i .i + 1) v (drop (c .loop-i .i + 1) text)) (c .is-ascii-digit-after-digit .ensures .value) ∙ sym more ∙ c .loop-i .inv
+    ap (λ v. faultyFrom (c .loop-i .i + 1) v (drop (c .loop-i .i + 1) text)) (c .is-ascii-digit-after-digit .ensures .value)
+    ∙ sym more ∙ c .loop-i .inv
 
 pub returns : need.returns
 returns c =

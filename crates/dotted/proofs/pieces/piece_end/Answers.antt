@@ -1,4 +1,4 @@
-use mathlib.Core.Path.{sym, ap, _∙_}
+use mathlib.Core.Path.{ap}
 use native.Mathlib.Omega.{arith}
 use lib.ListN.{length}
 use Rattle.std.proofs.shelf.Tests.{eq-eqb, ne-eqb}
@@ -7,7 +7,8 @@ use Rattle.dotted.proofs.pieces.piece_end.Needs as need
 
 pub returns-then-text-i-eq46 : need.returns-then-text-i-eq46
 returns-then-text-i-eq46 c =
-    let none = ap length (before-dot (c .args .text .now) (c .loop-i .i) (omega arith) (eq-eqb _ 46 (c .if-text-i-eq46 .taken))) in
+    let none =
+    ap length (before-dot (c .args .text .now) (c .loop-i .i) (omega arith) (eq-eqb _ 46 (c .if-text-i-eq46 .taken))) in
     record { value = omega (arith, none, c .loop-i .inv); bound = omega arith }
 
 pub loop-i-again : need.loop-i-again

@@ -1,4 +1,4 @@
-use mathlib.Core.Path.{_≡_, sym, ap, _∙_}
+use mathlib.Core.Path.{sym, ap, _∙_}
 use Rattle.std.specs.declared.result.Result.the-variants.{Err}
 use Rattle.std.proofs.shelf.Results.{err-from-errBy}
 use Rattle.oid.specs.Meaning.{arcsOf}
@@ -15,7 +15,8 @@ collect-numbers-requires c κs = c .prefix-length-start .ensures .bound
 
 pub returns-in-Some : need.returns-in-Some
 returns-in-Some c =
-    let is = read-malformed (c .args .text .now) (c .prefix-length-start .result) (c .prefix-length-start .ensures .value) (c .in-Some .offset) (c .in-Some .ensures tt) in
+    let is =
+    read-malformed (c .args .text .now) (c .prefix-length-start .result) (c .prefix-length-start .ensures .value) (c .in-Some .offset) (c .in-Some .ensures tt) in
     record {
       value = ap Err (c .at .ensures) ∙ sym (ap answered is);
       after = sym (ap (λ r. filled r (arcsOf (c .args .identifier .now))) is);
@@ -25,7 +26,8 @@ returns-in-Some c =
 
 pub returns-in-Break-identifier : need.returns-in-Break-identifier
 returns-in-Break-identifier c =
-    let formed = read-formed (c .args .text .now) (c .prefix-length-start .result) (c .prefix-length-start .ensures .value) (c .in-rest .ensures tt) in
+    let formed =
+    read-formed (c .args .text .now) (c .prefix-length-start .result) (c .prefix-length-start .ensures .value) (c .in-rest .ensures tt) in
     let is = c .in-Break-identifier .ensures tt _ (c .collect-numbers .ensures) ∙ sym formed in
     let p = err-from-errBy (c .from-residual .result) (c .from-residual .ensures .1) in
     record {
@@ -37,7 +39,8 @@ returns-in-Break-identifier c =
 
 pub returns : need.returns
 returns c =
-    let formed = read-formed (c .args .text .now) (c .prefix-length-start .result) (c .prefix-length-start .ensures .value) (c .in-rest .ensures tt) in
+    let formed =
+    read-formed (c .args .text .now) (c .prefix-length-start .result) (c .prefix-length-start .ensures .value) (c .in-rest .ensures tt) in
     let is = c .in-Continue-identifier .ensures tt _ (c .collect-numbers .ensures) ∙ sym formed in
     record {
       value = ap answered is;

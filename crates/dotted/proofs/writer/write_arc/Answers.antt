@@ -11,7 +11,8 @@ pub returns : need.returns
 returns c =
     let place = c .args .place in
     let page = c .args .page .now in
-    let lent = placed-lent place (decimal (c .from .result)) page (c .write-number .last .page) (omega arith) (c .write-number .ensures .after) in
+    let lent =
+    placed-lent place (decimal (c .from .result)) page (c .write-number .last .page) (omega arith) (c .write-number .ensures .after) in
     record {
       value = ap (λ n. place + n) (c .write-number .ensures .value ∙ ap (λ n. length (decimal n)) (c .from .ensures));
       after = lent ∙ ap (λ n. placed place (decimal n) page) (c .from .ensures);

@@ -13,7 +13,8 @@ pub index-arcs-0 : need.index-arcs-0
 index-arcs-0 c = omega (arith, some-arcs (c .args .arcs .now) (c .pre .rule))
 
 pub write-arc-end-requires : need.write-arc-end-requires
-write-arc-end-requires c κs = omega (arith, c .pre .room, length-first (c .args .arcs .now) (omega (arith, some-arcs (c .args .arcs .now) (c .pre .rule))))
+write-arc-end-requires c κs =
+    omega (arith, c .pre .room, length-first (c .args .arcs .now) (omega (arith, some-arcs (c .args .arcs .now) (c .pre .rule))))
 
 pub loop-i-holds : need.loop-i-holds
 loop-i-holds c =
@@ -21,7 +22,8 @@ loop-i-holds c =
     (omega (arith, c .write-arc-end .ensures .value), refl)
 
 pub write-next-end-requires : need.write-next-end-requires
-write-next-end-requires c κs = omega (arith, c .pre .room, c .loop-i .inv .0, c .loop-i .kept .page, length-more (c .args .arcs .now) (c .loop-i .i) (omega arith))
+write-next-end-requires c κs =
+    omega (arith, c .pre .room, c .loop-i .inv .0, c .loop-i .kept .page, length-more (c .args .arcs .now) (c .loop-i .i) (omega arith))
 
 pub loop-i-again : need.loop-i-again
 loop-i-again c =
@@ -47,8 +49,13 @@ returns c =
     let first = length-first arcs (omega arith) in
     let none = later-none arcs (c .loop-i .i) (omega arith) in
     let room : place + length front ≤ length page = omega (arith, c .pre .room) in
-    let done : placed (c .loop-i .end) (laterArcs (drop (c .loop-i .i) arcs)) (c .loop-i .page) ≡ c .loop-i .page = ap (λ l. placed (c .loop-i .end) l (c .loop-i .page)) none ∙ placed-none (c .loop-i .end) (c .loop-i .page) in
-    let all = (λ k. placed (c .write-arc-end .ensures .value k) back (c .write-arc-end .ensures .after k)) ∙ placed-both place front back page room ∙ ap (λ l. placed place l page) (sym (text-first arcs (omega arith))) in
+    let done : placed (c .loop-i .end) (laterArcs (drop (c .loop-i .i) arcs)) (c .loop-i .page) ≡ c .loop-i .page =
+    ap (λ l. placed (c .loop-i .end) l (c .loop-i .page)) none
+    ∙ placed-none (c .loop-i .end) (c .loop-i .page) in
+    let all =
+    (λ k. placed (c .write-arc-end .ensures .value k) back (c .write-arc-end .ensures .after k))
+    ∙ placed-both place front back page room
+    ∙ ap (λ l. placed place l page) (sym (text-first arcs (omega arith))) in
     record {
       value = omega (arith, c .loop-i .inv .0, length-none arcs (c .loop-i .i) (omega arith));
       after = sym done ∙ c .loop-i .inv .1 ∙ all;

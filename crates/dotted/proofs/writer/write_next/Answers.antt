@@ -2,7 +2,6 @@ use Prim.Native.Nat.{_+_}
 use mathlib.Core.List.{[], _∷_}
 use mathlib.Core.Path.{ap, _∙_}
 use native.Mathlib.Omega.{arith}
-use lib.ListN.{length}
 use Rattle.std.specs.Written.{decimal}
 use Rattle.oid.specs.Pages.{placed}
 use Rattle.oid.proofs.Pages.{placed-one, placed-both}
@@ -17,5 +16,7 @@ returns c =
     let first = placed-one place dot page (omega arith) in
     record {
       value = omega (arith, c .write-arc .ensures .value);
-      after = c .write-arc .ensures .after ∙ ap (placed (place + 1) digits) first ∙ placed-both place (dot ∷ []) digits page (omega arith);
+      after =
+          c .write-arc .ensures .after ∙ ap (placed (place + 1) digits) first
+          ∙ placed-both place (dot ∷ []) digits page (omega arith);
     }

@@ -1,6 +1,6 @@
 use mathlib.Core.Bool.{true}
 use mathlib.Core.List.{[], _∷_, _++_}
-use mathlib.Core.Path.{_≡_, sym, ap, _∙_}
+use mathlib.Core.Path.{sym, ap, _∙_}
 use native.Mathlib.Omega.{arith}
 use lib.Dec.{ltb}
 use lib.ListN.{length}
@@ -24,5 +24,6 @@ pub returns : need.returns
 returns c =
     let i = c .args .self .now in
     let room = lt-ltb (length (arcsOf i)) mostArcs (omega (arith, len-is i)) in
-    let both = and-from (ltb (length (arcsOf i)) mostArcs) _ room (arc-found (c .args .arc) _ (c .arc-of .ensures ∙ ap arcOf (c .from .ensures)) true (c .if-is-none .ensures tt)) in
+    let both =
+    and-from (ltb (length (arcsOf i)) mostArcs) _ room (arc-found (c .args .arc) _ (c .arc-of .ensures ∙ ap arcOf (c .from .ensures)) true (c .if-is-none .ensures tt)) in
     ap Some (take-laid _ _ _ (laid-child i (c .args .arc) (omega arith))) ∙ sym (cond-true _ _ _ both)

@@ -14,4 +14,5 @@ ghost-result c =
 
 pub returns : need.returns
 returns c =
-    ap Some (take-laid _ (c .args .arcs .now) _ (refl, c .filled-up .ensures)) ∙ sym (cond-true _ _ _ (sym (c .if-not-keeps-rule .ensures tt)))
+    ap Some (take-laid _ (c .args .arcs .now) _ (refl, c .filled-up .ensures))
+    ∙ sym (cond-true _ _ _ (sym (c .if-not-keeps-rule .ensures tt)))

@@ -1,5 +1,5 @@
-use mathlib.Core.Path.{_≡_, sym, ap, _∙_}
-use Prim.Native.Nat.{_-_, _≤_, _<_}
+use mathlib.Core.Path.{sym, ap, _∙_}
+use Prim.Native.Nat.{_-_}
 use native.Mathlib.Omega.{arith}
 use lib.ListN.{length, take}
 use Rattle.std.proofs.shelf.Tests.{cond-true, lt-ltb}
@@ -20,4 +20,5 @@ pub returns : need.returns
 returns c =
     let i = c .args .self .now in
     let more = lt-ltb fewestArcs (length (arcsOf i)) (omega (arith, len-is i)) in
-    ap Some (take-laid _ _ _ (laid-parent i (omega arith)) ∙ ap (λ n. take (n - 1) (arcsOf i)) (len-is i)) ∙ sym (cond-true _ _ _ more)
+    ap Some (take-laid _ _ _ (laid-parent i (omega arith)) ∙ ap (λ n. take (n - 1) (arcsOf i)) (len-is i))
+    ∙ sym (cond-true _ _ _ more)

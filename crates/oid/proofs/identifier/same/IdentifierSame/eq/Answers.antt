@@ -1,5 +1,4 @@
-use mathlib.Core.Bool.{true}
-use mathlib.Core.Path.{_≡_, sym, ap, _∙_}
+use mathlib.Core.Path.{sym, ap, _∙_}
 use Rattle.std.proofs.shelf.Equals.{matches-decides}
 use Rattle.oid.specs.Meaning.{arcsOf}
 use Rattle.oid.proofs.Places.{same-from-arcs}
