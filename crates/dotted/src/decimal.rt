@@ -6,7 +6,7 @@ ghost use lib.ListN.{length, drop};
 ghost use Rattle.std.specs.Written.{decimal};
 
 // How many decimal digits a number has.
-pub fn digit_count(number: u64) -> usize
+pub(crate) fn digit_count(number: u64) -> usize
     ensures { λ r. ⌜ r ≡ length (decimal number) ⌝ }
 {
     let mut count = 1;
@@ -19,7 +19,7 @@ pub fn digit_count(number: u64) -> usize
 }
 
 // Writes a number in decimal at the front of a page that has room for it, and answers how many digits.
-pub fn write_number(number: u64, page: &mut [u8]) -> usize
+pub(crate) fn write_number(number: u64, page: &mut [u8]) -> usize
     requires { ⌜ length (decimal number) ≤ length (now page) ⌝ }
     ensures value { λ r. ⌜ r ≡ length (decimal number) ⌝ }
     ensures after { λ _. ⌜ now (page .exit) ≡ decimal number ++ drop (length (decimal number)) (now (page .entry)) ⌝ }

@@ -6,7 +6,7 @@ ghost use Rattle.dotted.specs.Form.{faulty, mayStand, beginsWithDigit};
 
 // The offset of the first byte at fault from `start` on, or `start` where nothing follows; none where the
 // text is well formed.
-pub fn first_fault(text: &[u8], start: usize) -> Option<usize>
+pub(crate) fn first_fault(text: &[u8], start: usize) -> Option<usize>
     requires { ⌜ start ≤ length (now text) ⌝ }
     ensures { λ r. ⌜ r ≡ faulty start (drop start (now (text .entry))) ⌝ }
 {

@@ -11,7 +11,7 @@ use oid::Numeral;
 use oid::arc::arc_of;
 
 // All numbers of the text from `start` on.
-pub fn collect_numbers(text: &[u8], start: usize) -> Collector
+pub(crate) fn collect_numbers(text: &[u8], start: usize) -> Collector
     requires { ⌜ start ≤ length (now text) ⌝ }
     ensures { λ r. ⌜ Collected r (numbersFrom start (drop start (now (text .entry)))) ⌝ }
 {

@@ -4,10 +4,10 @@ ghost use Prim.Native.Nat.{_≤_};
 ghost use lib.ListN.{length};
 ghost use Rattle.dotted.specs.Prefix.{prefixLength};
 
-pub const PREFIX: &[u8; 8] = b"urn:oid:";
+const PREFIX: &[u8; 8] = b"urn:oid:";
 
 // The length of the prefix at the front of a text; 0 where there is none.
-pub fn prefix_length(text: &[u8]) -> usize
+pub(crate) fn prefix_length(text: &[u8]) -> usize
     ensures value { λ r. ⌜ r ≡ prefixLength (now (text .entry)) ⌝ }
     ensures bound { λ r. ⌜ r ≤ length (now (text .entry)) ⌝ }
 {

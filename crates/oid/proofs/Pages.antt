@@ -21,13 +21,6 @@ placed-one place byte page h =
     let next : suc place ≡ place + 1 = omega arith in
     set-split page place byte h ∙ ap (λ n. take place page ++ byte ∷ drop n page) next
 
-pub length-placed : (place : ℕ) (bytes page : List ℕ) → place + length bytes ≤ length page
-    → length (placed place bytes page) ≡ length page
-unfolding placed
-length-placed place bytes page h =
-    let rest = drop (place + length bytes) page in
-    omega (arith, length-append (take place page) (bytes ++ rest), length-append bytes rest, length-take-le place page (omega arith), length-drop (place + length bytes) page)
-
 -- one piece behind the other is both at once
 pub placed-both : (place : ℕ) (front back page : List ℕ) → place + length front ≤ length page
     → placed (place + length front) back (placed place front page) ≡ placed place (front ++ back) page
