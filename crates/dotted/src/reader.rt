@@ -1,5 +1,6 @@
 // The reader of dotted text.
 ghost use mathlib.Core.Path.{_≡_};
+ghost use Rattle.std.specs.Vec.{refused};
 ghost use Rattle.oid.specs.Meaning.{arcsOf};
 ghost use Rattle.oid.specs.Refusals.{answered, filled};
 ghost use Rattle.dotted.specs.Laws.{Accepts-exactly, Prefixed};
@@ -16,6 +17,7 @@ use oid::Refusal;
 pub fn read(text: &[u8], identifier: &mut Identifier) -> Result<(), Fault>
     ensures value { λ r. ⌜ r ≡ answered (readDotted (now (text .entry))) ⌝ }
     ensures after { λ _. ⌜ arcsOf (now (identifier .exit)) ≡ filled (readDotted (now (text .entry))) (arcsOf (now (identifier .entry))) ⌝ }
+    ensures same { λ r. ⌜ refused r (λ _. now (identifier .exit) ≡ now (identifier .entry)) ⌝ }
     ensures exactly { λ _. ⌜ Accepts-exactly (now (text .entry)) ⌝ }
     ensures prefixed { λ _. ⌜ Prefixed (now (text .entry)) ⌝ }
 {

@@ -1,4 +1,4 @@
-use mathlib.Core.Path.{sym, ap, _∙_}
+use mathlib.Core.Path.{refl, sym, ap, _∙_}
 use Rattle.std.specs.declared.result.Result.the-variants.{Err}
 use Rattle.std.proofs.shelf.Results.{err-from-errBy}
 use Rattle.oid.specs.Meaning.{arcsOf}
@@ -20,6 +20,7 @@ returns-in-Some c =
     record {
       value = ap Err (c .at .ensures) ∙ sym (ap answered is);
       after = sym (ap (λ r. filled r (arcsOf (c .args .identifier .now))) is);
+      same = refl;
       exactly = accepts-exactly (c .args .text .now);
       prefixed = prefix-moves-faults (c .args .text .now);
     }
@@ -33,6 +34,7 @@ returns-in-Break-identifier c =
     record {
       value = p .1 ∙ ap Err (p .2) ∙ ap answered is;
       after = ap (λ r. filled r (arcsOf (c .args .identifier .now))) is;
+      same = rw (p .1) refl;
       exactly = accepts-exactly (c .args .text .now);
       prefixed = prefix-moves-faults (c .args .text .now);
     }
@@ -45,6 +47,7 @@ returns c =
     record {
       value = ap answered is;
       after = ap (λ r. filled r (arcsOf (c .args .identifier .now))) is;
+      same = tt;
       exactly = accepts-exactly (c .args .text .now);
       prefixed = prefix-moves-faults (c .args .text .now);
     }
