@@ -20,11 +20,12 @@ use Rattle.oid.specs.Numbers.{values, tooLarge, firstAt, readNumbers}
 use Rattle.oid.specs.Refusals.{faultAt}
 use Rattle.oid.specs.Tree.{isIdentifier}
 use Rattle.oid.specs.declared.refusal.Refusal.the-variants.{NotDotted}
-use Rattle.oid.proofs.Numbers.{asked, accepted, firstAt-none}
+use Rattle.oid.proofs.Numbers.{none-mapped, asked, accepted, firstAt-none}
 use Rattle.dotted.specs.Form.{dot, isDot, isDigit, beginsWithDigit, mayStand, faultyFrom, faulty}
 use Rattle.dotted.specs.Pieces.{Piece, longer, piecesFrom, decimalValue, leadingZero, numberIn, numbersFrom}
-use Rattle.dotted.specs.Reading.{readFrom}
+use Rattle.dotted.specs.Reading.{badForm, readFrom}
 use Rattle.dotted.specs.Writing.{afterDot, dottedText}
+use Rattle.dotted.proofs.Reading.{questions}
 use Rattle.dotted.proofs.Spelling.{written-again, digit-no-dot}
 use Rattle.dotted.proofs.Texts.{arc-fits}
 
@@ -174,14 +175,10 @@ spelled-whole (piece ∷ pieces) all zeros larges =
     let others = spelled pieces (all .1) (z .1) (l .1) in
     λ k. here k ++ others k
 
-none-faulty : (o : Option ℕ) → mapped (faultAt NotDotted) o ≡ None → o ≡ None
-none-faulty None e = refl
-none-faulty (Some n) e = let z : _≡_ {A = ℕ} 0 1 = cc in absurd (omega arith)
-
 pub text-read : (text : List ℕ) (offset : ℕ) (arcs : List ℕ) → readFrom offset text ≡ Ok arcs
     → (isIdentifier arcs ≡ true) × (text ≡ dottedText arcs)
 text-read text offset arcs e =
-    let q = asked (mapped (faultAt NotDotted) (faulty offset text)) (readNumbers (numbersFrom offset text)) arcs e in
+    let q = asked (badForm offset text) (readNumbers (numbersFrom offset text)) arcs (sym (questions offset text) ∙ e) in
     let found = accepted (numbersFrom offset text) arcs (q .1) in
-    let all = all-formed offset text (none-faulty (faulty offset text) (q .0)) in
+    let all = all-formed offset text (none-mapped (faultAt NotDotted) (faulty offset text) (q .0)) in
     (found .rule, sym (whole-pieces offset text) ∙ spelled-whole (piecesFrom offset text) all (found .no-zero) (found .no-large) ∙ ap dottedText (found .read))

@@ -16,7 +16,7 @@ use Rattle.std.proofs.shelf.Tests.{and-parts, or-left, cond-true, cond-false}
 use Rattle.oid.specs.Arcs.{isArc}
 use Rattle.oid.specs.Numbers.{Number, values, tooLarge, firstAt, readNumbers}
 use Rattle.oid.specs.Refusals.{ask, faultAt}
-use Rattle.oid.specs.Tree.{allArcs, isIdentifier}
+use Rattle.oid.specs.Tree.{allArcs, startsWell, isIdentifier}
 use Rattle.oid.specs.declared.refusal.Refusal.the-variants.{NotDotted}
 use Rattle.oid.proofs.Numbers.{counted, read-all}
 use Rattle.oid.proofs.Tree.{keeps}
@@ -24,6 +24,7 @@ use Rattle.dotted.specs.Form.{dot, isDot, isDigit, beginsWithDigit, mayStand, 
 use Rattle.dotted.specs.Pieces.{Piece, longer, piecesFrom, decimalValue, leadingZero, numberIn, numbersFrom}
 use Rattle.dotted.specs.Reading.{readFrom}
 use Rattle.dotted.specs.Writing.{dottedText}
+use Rattle.dotted.proofs.Reading.{questions}
 use Rattle.dotted.proofs.Spelling.{digits-of, value-of, unpadded-of, digit-no-dot}
 use Rattle.dotted.proofs.Texts.{laterArcs, arc-fits}
 
@@ -170,7 +171,8 @@ read-text arcs offset h =
     let found = plain (piecesFrom offset (dottedText arcs)) arcs (k .each) (pieces-text arcs offset some (k .each)) in
     let numbers = numbersFrom offset (dottedText arcs) in
     let long : length numbers ≡ length arcs = sym (length-map numbers (λ n. n .value)) ∙ ap length (found .read) in
-    let starts = ap (λ l. Rattle.oid.specs.Tree.startsWell (getD l 0 0) (getD l 1 0)) (found .read) ∙ k .start in
-    ap (λ o. ask (mapped (faultAt NotDotted) o) (readNumbers numbers)) formed
+    let starts = ap (λ l. startsWell (getD l 0 0) (getD l 1 0)) (found .read) ∙ k .start in
+    questions offset (dottedText arcs)
+    ∙ ap (λ o. ask (mapped (faultAt NotDotted) o) (readNumbers numbers)) formed
     ∙ read-all numbers (found .no-zero) (found .no-large) (counted (length numbers) (omega (arith, k .long)) (omega (arith, k .short))) starts
     ∙ ap Ok (found .read)

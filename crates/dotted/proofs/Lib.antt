@@ -7,3 +7,4 @@ pub mod Accepting
 pub mod Accepted
 pub mod Moving
 pub mod Theorems
+pub mod Misfits

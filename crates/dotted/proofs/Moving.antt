@@ -7,7 +7,6 @@ use native.Mathlib.Omega.{arith}
 use lib.Dec.{leb, ltb}
 use lib.ListN.{length, getD}
 use Rattle.std.specs.Options as options
-use Rattle.std.specs.Results as results
 use Rattle.std.specs.declared.option.Option.{Option}
 use Rattle.std.specs.declared.option.Option.the-variants.{Some, None}
 use Rattle.std.specs.declared.result.Result.{Result}
@@ -16,15 +15,16 @@ use Rattle.std.proofs.shelf.Lists.{length-map, getD-map}
 use Rattle.std.proofs.shelf.Tests.{and-parts, leb-true, cond-both}
 use Rattle.oid.specs.Numbers.{Number, values, offsets, tooLarge, firstAt, leadingZeros, largeNumbers, wrongCount, wrongStart, readNumbers}
 use Rattle.oid.specs.Refusals.{ask, faultAt}
-use Rattle.oid.specs.Tree.{fewestArcs, mostArcs, startsWell}
+use Rattle.oid.specs.Tree.{fewestArcs, mostArcs, lastRoot, startsWell}
 use Rattle.oid.specs.declared.refusal.Fault.{Fault}
 use Rattle.oid.specs.declared.refusal.Refusal.{Refusal}
 use Rattle.oid.specs.declared.refusal.Refusal.the-variants.{NotDotted, LeadingZero, ArcTooLarge, ArcCount, FirstArcs}
-use Rattle.oid.proofs.Numbers.{fewOrMany, yes-cond}
+use Rattle.oid.proofs.Numbers.{rightCount, yes-cond}
 use Rattle.dotted.specs.Form.{isDot, isDigit, mayStand, faultyFrom, faulty}
-use Rattle.dotted.specs.Laws.{further}
+use Rattle.dotted.specs.Laws.{further, readFurther}
 use Rattle.dotted.specs.Pieces.{Piece, longer, piecesFrom, numberIn, numbersFrom}
-use Rattle.dotted.specs.Reading.{readFrom}
+use Rattle.dotted.specs.Reading.{badForm, readFrom}
+use Rattle.dotted.proofs.Reading.{questions}
 
 module _ (bytes : ℕ) where
   abbrev later : ℕ → ℕ
@@ -35,9 +35,6 @@ module _ (bytes : ℕ) where
 
   abbrev movedNumber : Number → Number
   movedNumber number = record { offset = later (number .offset); value = number .value; padded = number .padded }
-
-  abbrev pub movedReading : Result (List ℕ) Fault → Result (List ℕ) Fault
-  movedReading reading = results.mapped (λ arcs. arcs) (further bytes) reading
 
   -- the form
   form-moved : (text : List ℕ) (offset : ℕ) (afterDigit : Bool)
@@ -108,8 +105,8 @@ module _ (bytes : ℕ) where
       ∙ picked-moved (test number) (number .offset) _ _ (firstAt-moved test same numbers)
 
   ask-moved : (before after : Option Fault) (others others′ : Result (List ℕ) Fault)
-      → after ≡ options.mapped (further bytes) before → (before ≡ None → others′ ≡ movedReading others)
-      → ask after others′ ≡ movedReading (ask before others)
+      → after ≡ options.mapped (further bytes) before → (before ≡ None → others′ ≡ readFurther bytes others)
+      → ask after others′ ≡ readFurther bytes (ask before others)
   ask-moved None after others others′ e h = ap (λ q. ask q others′) e ∙ h refl
   ask-moved (Some fault) after others others′ e h = ap (λ q. ask q others′) e
 
@@ -123,8 +120,8 @@ module _ (bytes : ℕ) where
 
   count-moved : (numbers : List Number)
       → wrongCount (map movedNumber numbers) ≡ options.mapped (further bytes) (wrongCount numbers)
-  count-moved numbers = ap (λ n. cond (fewOrMany n) None (Some (faultAt ArcCount 0))) (length-map numbers movedNumber)
-      ∙ go (fewOrMany (length numbers))
+  count-moved numbers = ap (λ n. cond (rightCount n) None (Some (faultAt ArcCount 0))) (length-map numbers movedNumber)
+      ∙ go (rightCount (length numbers))
     where
       go : (v : Bool)
           → cond v None (Some (faultAt ArcCount 0)) ≡ options.mapped (further bytes) (cond v None (Some (faultAt ArcCount 0)))
@@ -135,18 +132,18 @@ module _ (bytes : ℕ) where
       → wrongStart (map movedNumber numbers) ≡ options.mapped (further bytes) (wrongStart numbers)
   start-moved numbers enough =
       let counts =
-      and-parts (leb fewestArcs (length numbers)) (leb (length numbers) mostArcs) (yes-cond (fewOrMany (length numbers)) _ enough) in
+      and-parts (leb fewestArcs (length numbers)) (leb (length numbers) mostArcs) (yes-cond (rightCount (length numbers)) _ enough) in
       let two = leb-true fewestArcs (length numbers) (counts .0) in
-      let place : ℕ = cond (ltb 2 (getD (values numbers) 0 0)) 0 1 in
+      let place : ℕ = cond (ltb lastRoot (getD (values numbers) 0 0)) 0 1 in
       let small : place ≤ 1 =
-      cond-both (ltb 2 (getD (values numbers) 0 0)) 0 1 (λ n. n ≤ 1) (λ _. omega arith) (λ _. omega arith) in
+      cond-both (ltb lastRoot (getD (values numbers) 0 0)) 0 1 (λ n. n ≤ 1) (λ _. omega arith) (λ _. omega arith) in
       let there : getD (map later (offsets numbers)) place 0 ≡ later (getD (offsets numbers) place 0) =
       getD-map later (offsets numbers) place 0 0 (omega (arith, length-map numbers (λ number. number .offset))) in
       (λ k. asks (values-moved numbers k) (offsets-moved numbers k))
       ∙ go (startsWell (getD (values numbers) 0 0) (getD (values numbers) 1 0)) place there
     where
       asks : List ℕ → List ℕ → Option Fault
-      asks arcs places = cond (startsWell (getD arcs 0 0) (getD arcs 1 0)) None (Some (faultAt FirstArcs (getD places (cond (ltb 2 (getD arcs 0 0)) 0 1) 0)))
+      asks arcs places = cond (startsWell (getD arcs 0 0) (getD arcs 1 0)) None (Some (faultAt FirstArcs (getD places (cond (ltb lastRoot (getD arcs 0 0)) 0 1) 0)))
 
       go : (v : Bool) (place : ℕ)
           → getD (map later (offsets numbers)) place 0 ≡ later (getD (offsets numbers) place 0)
@@ -154,7 +151,7 @@ module _ (bytes : ℕ) where
       go true place e = refl
       go false place e = ap (λ n. Some (faultAt FirstArcs n)) e
 
-  numbers-moved : (numbers : List Number) → readNumbers (map movedNumber numbers) ≡ movedReading (readNumbers numbers)
+  numbers-moved : (numbers : List Number) → readNumbers (map movedNumber numbers) ≡ readFurther bytes (readNumbers numbers)
   unfolding readNumbers
   numbers-moved numbers =
       ask-moved (leadingZeros numbers) _ _ _ (at-byte LeadingZero (λ _. refl) _ _ (firstAt-moved (λ number. number .padded) (λ _. refl) numbers)) (λ _.
@@ -162,7 +159,9 @@ module _ (bytes : ℕ) where
       ask-moved (wrongCount numbers) _ _ _ (count-moved numbers) (λ enough.
       ask-moved (wrongStart numbers) _ _ _ (start-moved numbers enough) (λ _. ap Ok (values-moved numbers)))))
 
-  pub read-moved : (text : List ℕ) (offset : ℕ) → readFrom (later offset) text ≡ movedReading (readFrom offset text)
+  pub read-moved : (text : List ℕ) (offset : ℕ) → readFrom (later offset) text ≡ readFurther bytes (readFrom offset text)
   read-moved text offset =
       let numbers = ap (map numberIn) (pieces-moved text offset) ∙ numbered (piecesFrom offset text) in
-      ask-moved (options.mapped (faultAt NotDotted) (faulty offset text)) _ _ _ (at-byte NotDotted (λ _. refl) _ _ (faulty-moved text offset)) (λ _. ap readNumbers numbers ∙ numbers-moved (numbersFrom offset text))
+      questions (later offset) text
+      ∙ ask-moved (badForm offset text) _ _ _ (at-byte NotDotted (λ _. refl) _ _ (faulty-moved text offset)) (λ _. ap readNumbers numbers ∙ numbers-moved (numbersFrom offset text))
+      ∙ ap (readFurther bytes) (sym (questions offset text))

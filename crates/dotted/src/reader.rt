@@ -3,7 +3,7 @@ ghost use mathlib.Core.Path.{_≡_};
 ghost use Rattle.std.specs.Vec.{refused};
 ghost use Rattle.oid.specs.Meaning.{arcsOf};
 ghost use Rattle.oid.specs.Refusals.{answered, filled};
-ghost use Rattle.dotted.specs.Laws.{Accepts-exactly, Prefixed};
+ghost use Rattle.dotted.specs.Laws.{Exactly, Prefixed, Malformed-at-first};
 ghost use Rattle.dotted.specs.Reading.{readDotted};
 use crate::form::first_fault;
 use crate::pieces::collect_numbers;
@@ -18,8 +18,9 @@ pub fn read(text: &[u8], identifier: &mut Identifier) -> Result<(), Fault>
     ensures value { λ r. ⌜ r ≡ answered (readDotted (now (text .entry))) ⌝ }
     ensures after { λ _. ⌜ arcsOf (now (identifier .exit)) ≡ filled (readDotted (now (text .entry))) (arcsOf (now (identifier .entry))) ⌝ }
     ensures same { λ r. ⌜ refused r (λ _. now (identifier .exit) ≡ now (identifier .entry)) ⌝ }
-    ensures exactly { λ _. ⌜ Accepts-exactly (now (text .entry)) ⌝ }
-    ensures prefixed { λ _. ⌜ Prefixed (now (text .entry)) ⌝ }
+    ensures exactly { λ r. ⌜ Exactly (now (text .entry)) r (arcsOf (now (identifier .exit))) ⌝ }
+    ensures prefixed { λ r. ⌜ Prefixed (now (text .entry)) r ⌝ }
+    ensures first { λ r. ⌜ Malformed-at-first (now (text .entry)) r ⌝ }
 {
     let start = prefix_length(text);
     if let Some(offset) = first_fault(text, start) {

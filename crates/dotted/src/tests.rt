@@ -59,7 +59,7 @@ const READ: [(&[u8], &[Arc]); 10] = [
 #[test]
 fn refused() -> Result<(), Fail> {
     for (text, number, offset) in REFUSED {
-        let mut identifier = Identifier::lowest();
+        let mut identifier = Identifier::smallest();
         match read(text, &mut identifier) {
             Ok(()) => return Err(Fail::new("it was read")),
             Err(fault) => {
@@ -75,7 +75,7 @@ fn refused() -> Result<(), Fail> {
 #[test]
 fn accepted() -> Result<(), Fail> {
     for (text, arcs) in READ {
-        let mut identifier = Identifier::lowest();
+        let mut identifier = Identifier::smallest();
         check(read(text, &mut identifier).is_ok())?;
         check(identifier.arcs() == arcs)?;
     }

@@ -1,4 +1,5 @@
--- What proofs may know of the arc limit. Only worked examples open it besides.
+-- What proofs may know of the arc limit. Besides, the proof of `arc_of` ties it to the code's constant, and worked
+-- examples compute with it.
 use Prim.Native.Nat.{ℕ, _^_, _≤_, _<_}
 use mathlib.Core.Bool.{Bool, true, false, cond}
 use mathlib.Core.Path.{_≡_, refl, sym, ap, _∙_}
@@ -13,11 +14,6 @@ use Rattle.oid.specs.Arcs.{arcLimit, isArc, arcOf}
 pub limit-room : arcLimit < 2 ^ 60
 unfolding arcLimit
 limit-room = omega arith
-
--- the limit is the number that the code compares with
-pub limit-is : arcLimit ≡ 4294967295
-unfolding arcLimit
-limit-is = omega arith
 
 pub arcOf-some : (n : ℕ) → n ≤ arcLimit → arcOf n ≡ Some n
 arcOf-some n h = cond-true (isArc n) _ _ (le-leb n arcLimit h)

@@ -16,12 +16,12 @@ use Rattle.std.proofs.shelf.Tests.{cases-lt, cond-both}
 use Rattle.oid.specs.Collected.{Collected, numeralOf, storedArc}
 use Rattle.oid.specs.Numbers.{Number, values, offsets, tooLarge, firstAt, readNumbers}
 use Rattle.oid.specs.Refusals.{faultAt}
-use Rattle.oid.specs.Tree.{fewestArcs, mostArcs, isIdentifier, identified, startsWell}
+use Rattle.oid.specs.Tree.{fewestArcs, mostArcs, lastRoot, isIdentifier, identified, startsWell}
 use Rattle.oid.specs.declared.collector.Collector.{Collector}
 use Rattle.oid.specs.declared.numeral.Numeral.{Numeral}
 use Rattle.oid.specs.declared.refusal.Refusal.the-variants.{FirstArcs}
 use Rattle.oid.proofs.Arcs.{isArc-is}
-use Rattle.oid.proofs.Numbers.{firstAt-push, none-large, fewOrMany, counted, read-start, read-all}
+use Rattle.oid.proofs.Numbers.{firstAt-push, none-large, rightCount, counted, read-start, read-all}
 use Rattle.oid.proofs.Tree.{identified-some, identified-none, identifier-starts}
 
 -- the places hold the first 16 of a list
@@ -120,7 +120,7 @@ module _ (collector : Collector) (numbers : List Number) (known : Collected coll
   zero-none : firstAt (λ n. n .padded) numbers ≡ None
   zero-none = sym (known .padded) ∙ no-zero
 
-  enough : fewOrMany (length numbers) ≡ true
+  enough : rightCount (length numbers) ≡ true
   enough = counted (length numbers) (omega (arith, count-is)) (omega (arith, count-is))
 
   arcs-are : take (collector .count) (collector .arcs) ≡ values numbers
@@ -142,16 +142,16 @@ module _ (collector : Collector) (numbers : List Number) (known : Collected coll
       ap Ok (found .1 ∙ arcs-are) ∙ sym (read-all numbers zero-none large-none enough well)
 
   pub finish-none : (offset : ℕ) → None ≡ identified (take (collector .count) (collector .arcs))
-      → offset ≡ getD (collector .offsets) (cond (ltb 2 (getD (collector .arcs) 0 0)) 0 1) 0
+      → offset ≡ getD (collector .offsets) (cond (ltb lastRoot (getD (collector .arcs) 0 0)) 0 1) 0
       → Err (faultAt FirstArcs offset) ≡ readNumbers numbers
   finish-none offset e at =
       let ill = sym starts ∙ sym (ap isIdentifier arcs-are) ∙ identified-none _ e in
       let first : getD (collector .arcs) 0 0 ≡ getD (values numbers) 0 0 =
       sym (getD-take (collector .count) (collector .arcs) 0 0 (omega arith))
       ∙ ap (λ l. getD l 0 0) arcs-are in
-      let place : ℕ = cond (ltb 2 (getD (values numbers) 0 0)) 0 1 in
+      let place : ℕ = cond (ltb lastRoot (getD (values numbers) 0 0)) 0 1 in
       let small : place ≤ 1 =
-      cond-both (ltb 2 (getD (values numbers) 0 0)) 0 1 (λ n. n ≤ 1) (λ _. omega arith) (λ _. omega arith) in
+      cond-both (ltb lastRoot (getD (values numbers) 0 0)) 0 1 (λ n. n ≤ 1) (λ _. omega arith) (λ _. omega arith) in
       let there : getD (collector .offsets) place 0 ≡ getD (offsets numbers) place 0 =
       getD-fronts (collector .offsets) (offsets numbers) (length numbers) mostArcs place (known .places) (omega (arith, count-is)) (omega arith) in
       ap (λ n. Err (faultAt FirstArcs n)) (at ∙ ap (λ n. getD (collector .offsets) (cond (ltb 2 n) 0 1) 0) first ∙ there)

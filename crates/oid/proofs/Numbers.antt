@@ -16,23 +16,24 @@ use Rattle.std.proofs.shelf.Tests.{and-parts, and-from, leb-true, and-left, and
 use Rattle.oid.specs.Arcs.{isArc}
 use Rattle.oid.specs.Collected.{storedArc}
 use Rattle.oid.specs.Numbers.{Number, values, offsets, tooLarge, firstAt, leadingZeros, largeNumbers, wrongCount, wrongStart, readNumbers}
-use Rattle.oid.specs.Refusals.{faultAt, ask}
-use Rattle.oid.specs.Tree.{fewestArcs, mostArcs, allArcs, startsWell, isIdentifier}
+use Rattle.oid.specs.Refusals.{faultAt, ask, numberOf}
+use Rattle.oid.specs.Tree.{fewestArcs, mostArcs, lastRoot, allArcs, startsWell, isIdentifier}
 use Rattle.oid.specs.declared.refusal.Fault.{Fault}
-use Rattle.oid.specs.declared.refusal.Refusal.the-variants.{LeadingZero, ArcTooLarge, ArcCount, FirstArcs}
+use Rattle.oid.specs.declared.refusal.Refusal.{Refusal}
+use Rattle.oid.specs.declared.refusal.Refusal.the-variants.{NotDotted, LeadingZero, ArcTooLarge, ArcCount, FirstArcs}
 use Rattle.oid.proofs.Tree.{identifier-starts}
 
--- how many numbers there must be
-abbrev pub fewOrMany : ℕ → Bool
-fewOrMany n = leb fewestArcs n && leb n mostArcs
+-- whether there are as many numbers as an identifier has
+abbrev pub rightCount : ℕ → Bool
+rightCount n = leb fewestArcs n && leb n mostArcs
 
-pub counted : (n : ℕ) → fewestArcs ≤ n → n ≤ mostArcs → fewOrMany n ≡ true
+pub counted : (n : ℕ) → fewestArcs ≤ n → n ≤ mostArcs → rightCount n ≡ true
 counted n low high = and-from (leb fewestArcs n) _ (le-leb fewestArcs n low) (le-leb n mostArcs high)
 
-pub too-few : (n : ℕ) → n < fewestArcs → fewOrMany n ≡ false
+pub too-few : (n : ℕ) → n < fewestArcs → rightCount n ≡ false
 too-few n h = and-left (leb fewestArcs n) _ (lt-leb fewestArcs n h)
 
-pub too-many : (n : ℕ) → mostArcs < n → fewOrMany n ≡ false
+pub too-many : (n : ℕ) → mostArcs < n → rightCount n ≡ false
 too-many n h = and-right (leb fewestArcs n) _ (lt-leb n mostArcs h)
 
 pub firstAt-push : (test : Number → Bool) (numbers : List Number) (number : Number)
@@ -81,13 +82,13 @@ module _ (numbers : List Number) where
     read-large at e = rw (no-zero, e) refl
 
     module _ (no-large : firstAt tooLarge numbers ≡ None) where
-      pub read-count : fewOrMany (length numbers) ≡ false → readNumbers numbers ≡ Err (faultAt ArcCount 0)
+      pub read-count : rightCount (length numbers) ≡ false → readNumbers numbers ≡ Err (faultAt ArcCount 0)
       unfolding readNumbers
       read-count e = rw (no-zero, no-large, e) refl
 
-      module _ (enough : fewOrMany (length numbers) ≡ true) where
+      module _ (enough : rightCount (length numbers) ≡ true) where
         pub read-start : startsWell (getD (values numbers) 0 0) (getD (values numbers) 1 0) ≡ false
-            → readNumbers numbers ≡ Err (faultAt FirstArcs (getD (offsets numbers) (cond (ltb 2 (getD (values numbers) 0 0)) 0 1) 0))
+            → readNumbers numbers ≡ Err (faultAt FirstArcs (getD (offsets numbers) (cond (ltb lastRoot (getD (values numbers) 0 0)) 0 1) 0))
         unfolding readNumbers
         read-start e = rw (no-zero, no-large, enough, e) refl
 
@@ -109,7 +110,7 @@ pub record Accepted (numbers : List Number) (arcs : List ℕ) : Type 0 where
   pub rule : isIdentifier arcs ≡ true
   pub read : values numbers ≡ arcs
 
-none-mapped : (f : ℕ → Fault) (o : Option ℕ) → mapped f o ≡ None → o ≡ None
+pub none-mapped : (f : ℕ → Fault) (o : Option ℕ) → mapped f o ≡ None → o ≡ None
 none-mapped f None e = refl
 none-mapped f (Some n) e = let z : _≡_ {A = ℕ} 0 1 = cc in absurd (omega arith)
 
@@ -126,7 +127,7 @@ accepted numbers arcs e =
     let start = asked (wrongStart numbers) _ arcs (count .1) in
     let large = none-mapped (faultAt ArcTooLarge) (firstAt tooLarge numbers) (larges .0) in
     let counts =
-    and-parts (leb fewestArcs (length numbers)) (leb (length numbers) mostArcs) (yes-cond (fewOrMany (length numbers)) _ (count .0)) in
+    and-parts (leb fewestArcs (length numbers)) (leb (length numbers) mostArcs) (yes-cond (rightCount (length numbers)) _ (count .0)) in
     let long = length-map numbers (λ number. number .value) in
     let starts =
     identifier-starts (values numbers) (omega (arith, leb-true fewestArcs (length numbers) (counts .0))) (omega (arith, leb-true (length numbers) mostArcs (counts .1))) (none-large numbers large .1) in
@@ -139,3 +140,29 @@ accepted numbers arcs e =
           ∙ yes-cond (startsWell (getD (values numbers) 0 0) (getD (values numbers) 1 0)) _ (start .0);
       read = same;
     }
+
+-- the number of the refusal that ended a reading
+abbrev refusedBy : Result (List ℕ) Fault → ℕ
+refusedBy (Ok arcs) = 0
+refusedBy (Err fault) = numberOf (fault .refusal)
+
+module _ (refusal : Refusal) (apart : numberOf refusal ≡ 1 → ⊥) (others : Result (List ℕ) Fault) (offset : ℕ) where
+  -- a question with another refusal said yes, and the others were put
+  past-offset : (o : Option ℕ) → ask (mapped (faultAt refusal) o) others ≡ Err (faultAt NotDotted offset) → others ≡ Err (faultAt NotDotted offset)
+  past-offset None e = e
+  past-offset (Some n) e = absurd (apart (ap refusedBy e))
+
+  past-test : (v : Bool) (at : ℕ) → ask (cond v None (Some (faultAt refusal at))) others ≡ Err (faultAt NotDotted offset) → others ≡ Err (faultAt NotDotted offset)
+  past-test true at e = e
+  past-test false at e = absurd (apart (ap refusedBy e))
+
+-- no question about numbers is refused as a wrong form
+pub never-malformed : (numbers : List Number) (offset : ℕ) → readNumbers numbers ≡ Err (faultAt NotDotted offset) → ⊥
+unfolding readNumbers
+never-malformed numbers offset e =
+    let zeros = past-offset LeadingZero (λ h. omega arith) _ offset (firstAt (λ number. number .padded) numbers) e in
+    let larges = past-offset ArcTooLarge (λ h. omega arith) _ offset (firstAt tooLarge numbers) zeros in
+    let count = past-test ArcCount (λ h. omega arith) _ offset (rightCount (length numbers)) 0 larges in
+    let start = past-test FirstArcs (λ h. omega arith) _ offset (startsWell (getD (values numbers) 0 0) (getD (values numbers) 1 0)) _ count in
+    let z : _≡_ {A = ℕ} 0 1 = ap refusedBy start in
+    omega arith

@@ -150,8 +150,8 @@ identifier-starts arcs low high each =
     rw (le-leb fewestArcs (length arcs) low, le-leb (length arcs) mostArcs high, each) (and-true (startsWell (getD arcs 0 0) (getD arcs 1 0)))
 
 -- 0.0 is an identifier
-pub keeps-lowest : Keeps (0 ∷ 0 ∷ [])
+pub keeps-smallest : Keeps (0 ∷ 0 ∷ [])
 unfolding allArcs
-keeps-lowest =
+keeps-smallest =
     let zero = le-leb 0 arcLimit (omega arith) in
     record { long = omega arith; short = omega arith; each = and-from (isArc 0) _ zero (and-from (isArc 0) _ zero refl); start = refl }

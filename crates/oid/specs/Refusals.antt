@@ -27,6 +27,11 @@ abbrev pub ask : {A : Type 0} → Option Fault → Result A Fault → Result A F
 ask None others = others
 ask (Some fault) others = Err fault
 
+-- What was found so far is put to further questions; a fault stays.
+abbrev pub andThen : {A B : Type 0} → Result A Fault → (A → Result B Fault) → Result B Fault
+andThen (Ok found) others = others found
+andThen (Err fault) others = Err fault
+
 -- What a reader that fills the caller's identifier answers of a reading.
 abbrev pub answered : Result (List ℕ) Fault → Result (Unit {0}) Fault
 answered (Ok arcs) = Ok tt

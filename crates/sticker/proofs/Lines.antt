@@ -10,7 +10,8 @@ use Rattle.std.proofs.shelf.Lists.{length-push, length-take, take-all, take-app
 use Rattle.std.proofs.shelf.Tests.{lt-ltb, le-ltb, ltb-true, ltb-false, le-leb, lt-leb, cond-true, cond-false}
 use Rattle.std.specs.declared.option.Option.the-variants.{Some, None}
 use Rattle.dotted.specs.Reading.{readDotted}
-use Rattle.sticker.specs.Lines.{lineLimit, verdictOn}
+use Rattle.sticker.specs.Limits.{lineLimit}
+use Rattle.sticker.specs.Lines.{verdictOn}
 
 module _ (bytes : List ℕ) (byte : ℕ) (kept : List ℕ) (same : kept ≡ take lineLimit bytes) where
   count : length kept ≡ min lineLimit (length bytes)

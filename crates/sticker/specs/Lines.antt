@@ -13,13 +13,10 @@ use Rattle.std.specs.declared.result.Result.the-variants.{Ok, Err}
 use Rattle.oid.specs.Meaning.{arcsOf}
 use Rattle.oid.specs.declared.refusal.Fault.{Fault}
 use Rattle.dotted.specs.Reading.{readDotted}
+use Rattle.sticker.specs.Limits.{lineLimit}
 use Rattle.sticker.specs.declared.line.Line.{Line}
 use Rattle.sticker.specs.declared.verdict.Verdict.{Verdict}
 use Rattle.sticker.specs.declared.verdict.Verdict.the-variants.{Good, Faulty, Long}
-
--- a line of more bytes is not read
-abbrev pub lineLimit : ℕ
-lineLimit = 4096
 
 -- the line has taken these bytes since it began: it keeps the first ones, and knows whether there were more
 pub record Took (line : Line) (bytes : List ℕ) : Type 0 where

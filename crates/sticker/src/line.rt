@@ -1,6 +1,7 @@
 // A line of input, in memory that does not grow with it.
 ghost use Prim.Native.Nat.{_≤_};
 ghost use Rattle.std.specs.Of.Vec.{vec-len, vec-cap};
+ghost use Rattle.sticker.specs.Limits.{lineLimit};
 
 mod taking;
 
@@ -12,6 +13,6 @@ pub const LINE_LIMIT: usize = 4096;
 pub struct Line {
     bytes: Vec<u8>,
     long: bool,
-    ghost few: { vec-len bytes ≤ 4096 },
-    ghost room: { 4096 ≤ vec-cap bytes },
+    ghost few: { vec-len bytes ≤ lineLimit },
+    ghost room: { lineLimit ≤ vec-cap bytes },
 }

@@ -17,7 +17,7 @@ pub enum Verdict {
 pub fn judge(text: &[u8]) -> Verdict
     ensures { λ r. ⌜ said r ≡ Some (readDotted (now (text .entry))) ⌝ }
 {
-    let mut identifier = Identifier::lowest();
+    let mut identifier = Identifier::smallest();
     match dotted::read(text, &mut identifier) {
         Ok(()) => Verdict::Good(identifier),
         Err(fault) => Verdict::Faulty(fault),

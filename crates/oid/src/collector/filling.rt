@@ -72,12 +72,12 @@ impl Collector {
         }
         match Identifier::from_arcs(&self.arcs[0..self.count]) {
             Some(identifier) => Ok(identifier),
-            None => Err(Refusal::FirstArcs.at(self.wrong_arc())),
+            None => Err(Refusal::FirstArcs.at(self.wrong_arc_offset())),
         }
     }
 
     // Where the first number begins if it is no root, else the second.
-    fn wrong_arc(&self) -> usize
+    fn wrong_arc_offset(&self) -> usize
         ensures { λ r. ⌜ r ≡ getD (now (self .entry) .offsets) (cond (ltb lastRoot (getD (now (self .entry) .arcs) 0 0)) 0 1) 0 ⌝ }
     {
         if self.arcs[0] > LAST_ROOT {

@@ -31,7 +31,7 @@ impl Identifier {
     }
 
     // The identifier 0.0: something for a reader to fill.
-    pub fn lowest() -> Identifier
+    pub fn smallest() -> Identifier
         ensures { λ r. ⌜ arcsOf r ≡ 0 ∷ 0 ∷ [] ⌝ }
     {
         Identifier {

@@ -4,7 +4,7 @@ use Rattle.std.proofs.shelf.Results.{err-from-errBy}
 use Rattle.oid.specs.Meaning.{arcsOf}
 use Rattle.oid.specs.Refusals.{answered, filled}
 use Rattle.dotted.proofs.Reading.{read-malformed, read-formed}
-use Rattle.dotted.proofs.Theorems.{accepts-exactly, prefix-moves-faults}
+use Rattle.dotted.proofs.Theorems.{exactly, prefixed, malformed-at-first}
 use Rattle.dotted.proofs.reader.read.Needs as need
 
 pub first-fault-requires : need.first-fault-requires
@@ -17,12 +17,15 @@ pub returns-in-Some : need.returns-in-Some
 returns-in-Some c =
     let is =
     read-malformed (c .args .text .now) (c .prefix-length-start .result) (c .prefix-length-start .ensures .value) (c .in-Some .offset) (c .in-Some .ensures tt) in
+    let value = ap Err (c .at .ensures) ∙ sym (ap answered is) in
+    let after = sym (ap (λ r. filled r (arcsOf (c .args .identifier .now))) is) in
     record {
-      value = ap Err (c .at .ensures) ∙ sym (ap answered is);
-      after = sym (ap (λ r. filled r (arcsOf (c .args .identifier .now))) is);
+      value = value;
+      after = after;
       same = refl;
-      exactly = accepts-exactly (c .args .text .now);
-      prefixed = prefix-moves-faults (c .args .text .now);
+      exactly = exactly (c .args .text .now) (arcsOf (c .args .identifier .now)) _ _ value after;
+      prefixed = prefixed (c .args .text .now) (arcsOf (c .args .identifier .now)) _ _ value after;
+      first = malformed-at-first (c .args .text .now) (arcsOf (c .args .identifier .now)) _ _ value after;
     }
 
 pub returns-in-Break-identifier : need.returns-in-Break-identifier
@@ -31,12 +34,15 @@ returns-in-Break-identifier c =
     read-formed (c .args .text .now) (c .prefix-length-start .result) (c .prefix-length-start .ensures .value) (c .in-rest .ensures tt) in
     let is = c .in-Break-identifier .ensures tt _ (c .collect-numbers .ensures) ∙ sym formed in
     let p = err-from-errBy (c .from-residual .result) (c .from-residual .ensures .1) in
+    let value = p .1 ∙ ap Err (p .2) ∙ ap answered is in
+    let after = ap (λ r. filled r (arcsOf (c .args .identifier .now))) is in
     record {
-      value = p .1 ∙ ap Err (p .2) ∙ ap answered is;
-      after = ap (λ r. filled r (arcsOf (c .args .identifier .now))) is;
+      value = value;
+      after = after;
       same = rw (p .1) refl;
-      exactly = accepts-exactly (c .args .text .now);
-      prefixed = prefix-moves-faults (c .args .text .now);
+      exactly = exactly (c .args .text .now) (arcsOf (c .args .identifier .now)) _ _ value after;
+      prefixed = prefixed (c .args .text .now) (arcsOf (c .args .identifier .now)) _ _ value after;
+      first = malformed-at-first (c .args .text .now) (arcsOf (c .args .identifier .now)) _ _ value after;
     }
 
 pub returns : need.returns
@@ -44,10 +50,13 @@ returns c =
     let formed =
     read-formed (c .args .text .now) (c .prefix-length-start .result) (c .prefix-length-start .ensures .value) (c .in-rest .ensures tt) in
     let is = c .in-Continue-identifier .ensures tt _ (c .collect-numbers .ensures) ∙ sym formed in
+    let value = ap answered is in
+    let after = ap (λ r. filled r (arcsOf (c .args .identifier .now))) is in
     record {
-      value = ap answered is;
-      after = ap (λ r. filled r (arcsOf (c .args .identifier .now))) is;
+      value = value;
+      after = after;
       same = tt;
-      exactly = accepts-exactly (c .args .text .now);
-      prefixed = prefix-moves-faults (c .args .text .now);
+      exactly = exactly (c .args .text .now) (arcsOf (c .args .identifier .now)) _ _ value after;
+      prefixed = prefixed (c .args .text .now) (arcsOf (c .args .identifier .now)) _ _ value after;
+      first = malformed-at-first (c .args .text .now) (arcsOf (c .args .identifier .now)) _ _ value after;
     }

@@ -1,10 +1,13 @@
 use native.Mathlib.Omega.{arith}
 use mathlib.Core.Path.{sym}
-use Rattle.oid.proofs.Arcs.{limit-is, arcOf-some, arcOf-none}
+use Rattle.oid.specs.Arcs.{arcLimit}
+use Rattle.oid.proofs.Arcs.{arcOf-some, arcOf-none}
 use Rattle.oid.proofs.arc.arc_of.Needs as need
 
 pub returns-then-number : need.returns-then-number
-returns-then-number c = sym (arcOf-some (c .args .number) (omega (arith, limit-is)))
+unfolding arcLimit
+returns-then-number c = sym (arcOf-some (c .args .number) (omega arith))
 
 pub returns-else-number : need.returns-else-number
-returns-else-number c = sym (arcOf-none (c .args .number) (omega (arith, limit-is)))
+unfolding arcLimit
+returns-else-number c = sym (arcOf-none (c .args .number) (omega arith))

@@ -6,7 +6,7 @@ use lib.ListN.{length, take}
 use Rattle.std.specs.declared.result.Result.the-variants.{Err}
 use Rattle.oid.specs.Tree.{identified}
 use Rattle.oid.proofs.Collecting.{finish-some, finish-none}
-use Rattle.oid.proofs.Numbers.{fewOrMany, too-few, too-many, read-zero, read-large, read-count}
+use Rattle.oid.proofs.Numbers.{rightCount, too-few, too-many, read-zero, read-large, read-count}
 use Rattle.oid.proofs.collector.Collector.finish.Needs as need
 use Rattle.oid.proofs.collector.Collector.finish.Needs.{then-self-lt-FEWEST-ARCS·by·then-self-lt-FEWEST-ARCS, then-self-lt-FEWEST-ARCS·by·else-self-lt-FEWEST-ARCS·then-self-gt-MOST-ARCS}
 
@@ -22,7 +22,7 @@ returns-in-Some-large c numbers known =
 
 pub returns-then-self-lt-FEWEST-ARCS : need.returns-then-self-lt-FEWEST-ARCS
 returns-then-self-lt-FEWEST-ARCS c numbers known =
-    let miscounted : fewOrMany (length numbers) ≡ false =
+    let miscounted : rightCount (length numbers) ≡ false =
     elim (c .then-self-lt-FEWEST-ARCS .came) [ then-self-lt-FEWEST-ARCS·by·then-self-lt-FEWEST-ARCS w ↦ too-few (length numbers) (omega (arith, known .count, w .if-self-lt-FEWEST-ARCS .taken)) | then-self-lt-FEWEST-ARCS·by·else-self-lt-FEWEST-ARCS·then-self-gt-MOST-ARCS w ↦ too-many (length numbers) (omega (arith, known .count, w .if-self-gt-MOST-ARCS .taken)) ] in
     ap Err (c .at-then-self-lt-FEWEST-ARCS .ensures)
     ∙ sym (read-count numbers (sym (known .padded) ∙ c .in-rest .is) (sym (known .large) ∙ c .in-rest-large .is) miscounted)
@@ -40,4 +40,4 @@ returns-in-None c numbers known =
     let from-0 : g .count - 0 ≡ g .count = omega arith in
     ap Err (c .at-in-None .ensures)
     ∙ finish-none g numbers known (c .in-rest .is) (c .in-rest-large .is) (c .if-self-lt-FEWEST-ARCS .left) (c .if-self-gt-MOST-ARCS .left) _
-    (c .in-None .ensures tt ∙ ap (λ n. identified (take n (g .arcs))) from-0) (c .wrong-arc .ensures)
+    (c .in-None .ensures tt ∙ ap (λ n. identified (take n (g .arcs))) from-0) (c .wrong-arc-offset .ensures)
