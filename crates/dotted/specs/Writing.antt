@@ -14,6 +14,7 @@ unfoldable pub dottedText : List ℕ → List ℕ
 dottedText [] = []
 dottedText (arc ∷ arcs) = decimal arc ++ joined afterDot arcs
 
--- no identifier's text has more bytes: 16 arcs of at most 20 digits, with 15 dots
+-- no identifier's text has more bytes, whatever the arc limit within 64 bits: 16 arcs of at most 20 digits, with 15
+-- dots
 abbrev pub textLimit : ℕ
 textLimit = 335

@@ -8,7 +8,8 @@ pub fn one_text_for_each() -> u8
     0
 }
 
-// The prefix changes no answer, except that faults at a byte are further on.
+// The prefix before a text that does not itself begin with it changes no answer, except that faults at a byte are
+// further on.
 pub fn prefix_moves_faults() -> u8
     ensures { λ _. ⌜ Prefix-moves-faults ⌝ }
 {

@@ -1,4 +1,4 @@
-// Dotted text: identifiers as decimal arcs with dots between them, as RFC 3061 has them.
+// Dotted text: identifiers as decimal arcs with dots between them, with or without the prefix of RFC 3061.
 mod decimal;
 mod form;
 pub mod laws;

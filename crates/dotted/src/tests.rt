@@ -93,5 +93,7 @@ fn written() -> Result<(), Fail> {
     check(write(&identifier, &mut page, 5).is_err())?;
     check(write(&identifier, &mut page, 21).is_err())?;
     check(write(&identifier, &mut page, usize::MAX).is_err())?;
-    check(page.as_slice() == b"---2.999.4294967295-")
+    check(page.as_slice() == b"---2.999.4294967295-")?;
+    check_eq(write(&identifier, &mut page, 4).ok(), Some(20))?;
+    check(page.as_slice() == b"---22.999.4294967295")
 }

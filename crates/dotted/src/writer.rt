@@ -17,11 +17,13 @@ use oid::Arc;
 use oid::Identifier;
 use oid::Refusal;
 
-// No identifier's text has more bytes: 16 arcs of at most 20 digits, with 15 dots.
+// No identifier's text has more bytes, whatever the arc limit within 64 bits: 16 arcs of at most 20 digits, with 15
+// dots.
 pub const TEXT_LIMIT: usize = 335;
 
 // Writes the identifier's text into the page from a place onwards, and answers the new end. What it wrote
-// reads back as the identifier. Where too little of the page is left it refuses, and the page is untouched.
+// reads back as the identifier. Where too little of the page is left, or the place lies past its end, it refuses,
+// and the page is untouched.
 pub fn write(identifier: &Identifier, page: &mut [u8], place: usize) -> Result<usize, Refusal>
     ensures value { λ r. ⌜ r ≡ newEnd place (dottedText (arcsOf (now (identifier .entry)))) (now (page .entry)) ⌝ }
     ensures after { λ _. ⌜ now (page .exit) ≡ pageAfter place (dottedText (arcsOf (now (identifier .entry)))) (now (page .entry)) ⌝ }

@@ -36,19 +36,20 @@ unfoldable pub firstAt : (Number → Bool) → List Number → Option ℕ
 firstAt test [] = None
 firstAt test (number ∷ numbers) = cond (test number) (Some (number .offset)) (firstAt test numbers)
 
--- 2. Is no number of two or more digits begun with 0? If no: at the first such number.
+-- 2. Does every number of several digits begin with another digit than 0? A no is told at the first that does not.
 abbrev pub leadingZeros : List Number → Option Fault
 leadingZeros numbers = mapped (faultAt LeadingZero) (firstAt (λ number. number .padded) numbers)
 
--- 3. Is every number an arc? If no: at the first too large.
+-- 3. Is no number above the arc limit? A no is told at the first that is.
 abbrev pub largeNumbers : List Number → Option Fault
 largeNumbers numbers = mapped (faultAt ArcTooLarge) (firstAt tooLarge numbers)
 
--- 4. Are there 2 to 16 numbers? If no: at offset 0.
+-- 4. Are there as many numbers as an identifier has, 2 to 16? A no is told at offset 0.
 abbrev pub wrongCount : List Number → Option Fault
 wrongCount numbers = cond (leb fewestArcs (length numbers) && leb (length numbers) mostArcs) None (Some (faultAt ArcCount 0))
 
--- 5. Do the first two arcs keep the tree's rule? If no: at the first number if it is above 2, else at the second.
+-- 5. May an identifier begin with the first two numbers? A no is told at the first if it is no root, else at the
+-- second.
 abbrev pub wrongStart : List Number → Option Fault
 wrongStart numbers =
     let first = getD (values numbers) 0 0 in

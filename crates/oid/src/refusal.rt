@@ -14,12 +14,14 @@ pub enum Refusal {
 }
 
 impl Refusal {
+    // The number that the refusal is told by.
     pub fn number(self) -> u8
         ensures { λ r. ⌜ r ≡ numberOf self ⌝ }
     {
         self as u8
     }
 
+    // The refusal as a fault at an offset.
     pub fn at(self, offset: usize) -> Fault
         ensures { λ r. ⌜ r ≡ faultAt self offset ⌝ }
     {

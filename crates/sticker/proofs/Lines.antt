@@ -1,17 +1,17 @@
 -- Lines, one byte more, and their verdicts.
-use Prim.Native.Nat.{ℕ, _≤_, _<_, min}
-use mathlib.Core.Bool.{true, false}
+use Prim.Native.Nat.{ℕ, _+_, _≤_, _<_, min}
+use mathlib.Core.Bool.{true, false, cond}
 use mathlib.Core.List.{List, [], _∷_, _++_}
 use mathlib.Core.Path.{_≡_, sym, ap, _∙_}
 use native.Mathlib.Omega.{arith}
-use lib.Dec.{leb, ltb}
-use lib.ListN.{length, take}
-use Rattle.std.proofs.shelf.Lists.{length-push, length-take, take-all, take-append-le}
-use Rattle.std.proofs.shelf.Tests.{lt-ltb, le-ltb, ltb-true, ltb-false, le-leb, lt-leb, cond-true, cond-false}
+use lib.Dec.{eqb, leb, ltb}
+use lib.ListN.{length, take, drop, getD}
+use Rattle.std.proofs.shelf.Lists.{length-push, length-take, take-all, take-append-le, at-drop-more, at-drop-all}
+use Rattle.std.proofs.shelf.Tests.{lt-ltb, le-ltb, ltb-true, ltb-false, le-leb, lt-leb, cond-true, cond-false, eq-eqb, ne-eqb}
 use Rattle.std.specs.declared.option.Option.the-variants.{Some, None}
 use Rattle.dotted.specs.Reading.{readDotted}
-use Rattle.sticker.specs.Limits.{lineLimit}
-use Rattle.sticker.specs.Lines.{verdictOn}
+use Rattle.sticker.specs.Limits.{lineLimit, lineFeed}
+use Rattle.sticker.specs.Lines.{verdictOn, underway}
 
 module _ (bytes : List ℕ) (byte : ℕ) (kept : List ℕ) (same : kept ≡ take lineLimit bytes) where
   count : length kept ≡ min lineLimit (length bytes)
@@ -50,3 +50,19 @@ verdict-short bytes kept same h =
     let few = ltb-false lineLimit (length bytes) h in
     ap (λ l. Some (readDotted l)) (same ∙ take-all lineLimit bytes few)
     ∙ sym (cond-true (leb (length bytes) lineLimit) _ _ (le-leb (length bytes) lineLimit few))
+
+-- the input from i on, by its first byte
+module _ (line input : List ℕ) (i : ℕ) (inside : i < length input) where
+  by-first : underway line (drop i input) ≡ cond (eqb (getD input i 0) lineFeed) (underway [] (drop (i + 1) input)) (underway (line ++ getD input i 0 ∷ []) (drop (i + 1) input))
+  unfolding underway
+  by-first = at-drop-more (underway line) input i 0 inside
+
+  pub underway-feed : getD input i 0 ≡ lineFeed → underway line (drop i input) ≡ underway [] (drop (i + 1) input)
+  underway-feed h = by-first ∙ cond-true _ _ _ (eq-eqb (getD input i 0) lineFeed h)
+
+  pub underway-byte : (getD input i 0 ≡ lineFeed → ⊥) → underway line (drop i input) ≡ underway (line ++ getD input i 0 ∷ []) (drop (i + 1) input)
+  underway-byte h = by-first ∙ cond-false _ _ _ (ne-eqb (getD input i 0) lineFeed h)
+
+pub underway-end : (line input : List ℕ) (i : ℕ) → length input ≤ i → underway line (drop i input) ≡ line
+unfolding underway
+underway-end line input i past = at-drop-all (underway line) input i past

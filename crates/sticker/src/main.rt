@@ -1,28 +1,32 @@
 // Checks sticker texts: one a line from standard input, an answer a line to standard output.
+ghost use mathlib.Core.List.{List, []};
+ghost use Prim.Native.Nat.{ℕ};
+ghost use Rattle.std.specs.Vec.{made};
+ghost use Rattle.sticker.specs.Lines.{Took, Counts, verdictOn, underway};
+
 mod line;
+mod tally;
 mod verdict;
 
 use line::LINE_LIMIT;
 use line::Line;
 use oid::Identifier;
 use oid::Refusal;
+use oid::arc::ARC_LIMIT;
+use oid::identifier::FEWEST_ARCS;
+use oid::identifier::LAST_SECOND;
+use oid::identifier::MOST_ARCS;
 use std::alloc::Global;
 use std::error::AnyError;
 use std::io;
 use std::io::BufWriter;
 use std::io::Read;
 use std::io::Write;
+use tally::Tally;
 use verdict::Verdict;
 
 // How many bytes are read at once.
 const CHUNK: usize = 4096;
-
-// How many lines were read, and how many of them refused.
-#[derive(Clone, Copy)]
-struct Tally {
-    read: u64,
-    refused: u64,
-}
 
 fn main(rt: LibcRuntime) -> Result<(), AnyError> {
     let mut input = rt.stdin();
@@ -58,13 +62,16 @@ fn check_stickers<R: Read, W: Write>(
     Ok(())
 }
 
+// Takes more input: each line feed ends a line, and every other byte belongs to one.
 fn take_bytes<W: Write>(
-    bytes: &[u8],
+    input: &[u8],
     line: &mut Line,
     tally: &mut Tally,
     out: &mut W,
-) -> io::Result<()> {
-    for byte in bytes {
+) -> io::Result<()>
+    ensures { λ r. ⌜ made r (λ _. (bytes : List ℕ) → Took (now (line .entry)) bytes → Took (now (line .exit)) (underway bytes (now (input .entry)))) ⌝ }
+{
+    for byte in input {
         if *byte == b'\n' {
             end_line(line, tally, out)?;
         } else {
@@ -75,12 +82,12 @@ fn take_bytes<W: Write>(
 }
 
 // Answers the line, counts it, and begins the next.
-fn end_line<W: Write>(line: &mut Line, tally: &mut Tally, out: &mut W) -> io::Result<()> {
+fn end_line<W: Write>(line: &mut Line, tally: &mut Tally, out: &mut W) -> io::Result<()>
+    ensures after { λ _. ⌜ Took (now (line .exit)) [] ⌝ }
+    ensures counts { λ _. ⌜ ((bytes : List ℕ) → Took (now (line .entry)) bytes → Counts (now (tally .entry)) (verdictOn bytes) (now (tally .exit))) ⌝ }
+{
     let verdict = line.verdict();
-    tally.read = tally.read.saturating_add(1);
-    if !matches!(verdict, Verdict::Good(_)) {
-        tally.refused = tally.refused.saturating_add(1);
-    }
+    tally.count(&verdict);
     line.clear();
     write_answer(&verdict, out)
 }
@@ -91,8 +98,8 @@ fn write_answer<W: Write>(verdict: &Verdict, out: &mut W) -> io::Result<()> {
         Verdict::Faulty(fault) => {
             let number = fault.refusal.number();
             let offset = fault.offset;
-            let words = words_for(fault.refusal);
-            writeln!(out, "no {number} {offset} {words}")
+            write!(out, "no {number} {offset} ")?;
+            write_words(fault.refusal, out)
         }
         Verdict::Long => writeln!(
             out,
@@ -121,16 +128,26 @@ fn write_text<W: Write>(identifier: &Identifier, out: &mut W) -> io::Result<()> 
     }
 }
 
-// What is wrong, in words; the offset beside them says where.
-fn words_for(refusal: Refusal) -> &'static str {
+// What is wrong, in words; the offset before them says where.
+fn write_words<W: Write>(refusal: Refusal, out: &mut W) -> io::Result<()> {
     match refusal {
-        Refusal::NotDotted =>
-            "here the text is not decimal numbers with one dot between neighbours",
-        Refusal::LeadingZero => "the number here has a needless 0 in front",
-        Refusal::ArcTooLarge => "the number here is larger than any arc",
-        Refusal::ArcCount => "an identifier has 2 to 16 numbers",
-        Refusal::FirstArcs =>
-            "the first number is 0, 1 or 2, and after 0 or 1 the second is at most 39",
-        Refusal::PageTooShort => "there is no room to write the identifier",
+        Refusal::NotDotted => writeln!(
+            out,
+            "here the text is not decimal numbers with one dot between neighbours"
+        ),
+        Refusal::LeadingZero => writeln!(out, "the number here has a needless 0 in front"),
+        Refusal::ArcTooLarge => writeln!(
+            out,
+            "the number here is above {ARC_LIMIT}, the largest that an identifier may have"
+        ),
+        Refusal::ArcCount => writeln!(
+            out,
+            "an identifier has {FEWEST_ARCS} to {MOST_ARCS} numbers"
+        ),
+        Refusal::FirstArcs => writeln!(
+            out,
+            "the first number is 0, 1 or 2, and after 0 or 1 the second is at most {LAST_SECOND}"
+        ),
+        Refusal::PageTooShort => writeln!(out, "there is no room to write the identifier"),
     }
 }

@@ -19,6 +19,7 @@ use crate::refusal::Fault;
 use crate::refusal::Refusal;
 
 impl Collector {
+    // A collector that was given no number yet.
     pub fn new() -> Collector
         ensures { λ r. ⌜ Collected r [] ⌝ }
     {

@@ -24,6 +24,7 @@ impl Line {
         })
     }
 
+    // One byte more.
     pub fn take(&mut self, byte: u8)
         ensures { λ _. ⌜ ((bytes : List ℕ) → Took (now (self .entry)) bytes → Took (now (self .exit)) (bytes ++ byte ∷ [])) ⌝ }
     {

@@ -10,8 +10,7 @@ returns c =
     let b = c .args .other .now in
     let p = c .arcs .ensures .value in
     let q = c .arcs-2 .ensures .value in
-    let d = matches-decides (c .arcs .result .now) (c .arcs-2 .result .now) (c .eq .result) (c .eq .ensures) in
-    (
+    let d = matches-decides (c .arcs .result .now) (c .arcs-2 .result .now) (c .eq .result) (c .eq .ensures) in (
       (λ t. same-from-arcs a b (sym p ∙ d .0 t ∙ q), λ e. d .1 (p ∙ ap arcsOf e ∙ sym q)),
       (λ t. sym p ∙ d .0 t ∙ q, λ e. d .1 (p ∙ e ∙ sym q)),
     )
