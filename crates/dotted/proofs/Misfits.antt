@@ -7,9 +7,9 @@ use mathlib.Core.Path.{_≡_, refl, sym, ap, subst, _∙_}
 use native.Mathlib.Omega.{arith}
 use lib.Dec.{ltb}
 use lib.ListN.{length, drop, getD}
-use Rattle.std.specs.declared.option.Option.the-variants.{Some, None}
+use Rattle.std.specs.declared.option.Option.the-variants.{Some}
 use Rattle.std.proofs.shelf.Lists.{getD-past}
-use Rattle.std.proofs.shelf.Tests.{cases-lt, cases-bool, le-ltb, lt-ltb, and-left}
+use Rattle.std.proofs.shelf.Tests.{cases-lt, le-ltb, lt-ltb, and-left}
 use Rattle.dotted.specs.Form.{isDot, isDigit, beginsWithDigit, mayStand, faultyFrom, faulty}
 use Rattle.dotted.specs.Laws.{fitsAt, First-misfit}
 use Rattle.dotted.proofs.Walks.{digit-here, no-digit, faulty-starts, faulty-empty, faulty-more, faulty-here, faulty-end}

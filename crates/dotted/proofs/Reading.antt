@@ -17,7 +17,8 @@ use Rattle.dotted.specs.Prefix.{prefixLength}
 use Rattle.dotted.specs.Reading.{badForm, readFrom, readDotted}
 
 -- the questions, one before the other
-pub questions : (offset : ℕ) (text : List ℕ) → readFrom offset text ≡ ask (badForm offset text) (readNumbers (numbersFrom offset text))
+pub questions : (offset : ℕ) (text : List ℕ)
+    → readFrom offset text ≡ ask (badForm offset text) (readNumbers (numbersFrom offset text))
 questions offset text = go (badForm offset text)
   where
     go : (fault : Option Fault)

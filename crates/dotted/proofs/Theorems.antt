@@ -53,7 +53,8 @@ plain text e = ap (λ n. readFrom n (drop n text)) e
 pub prefix-moves-faults : Prefix-moves-faults
 unfolding readDotted prefixLength
 prefix-moves-faults rest p =
-    let begins : prefixLength (prefix ++ rest) ≡ length prefix = cond-true (beginsWith (prefix ++ rest) prefix) _ _ (front-begins prefix rest) in
+    let begins : prefixLength (prefix ++ rest) ≡ length prefix =
+    cond-true (beginsWith (prefix ++ rest) prefix) _ _ (front-begins prefix rest) in
     let start : length prefix ≡ 0 + length prefix = omega arith in
     ap (λ n. readFrom n (drop n (prefix ++ rest))) begins
     ∙ ap (readFrom (length prefix)) (drop-at prefix rest (length prefix) refl)
@@ -77,7 +78,8 @@ offsetIn (Err fault) = fault .offset
 malformed : (text : List ℕ) (at : ℕ) → readDotted text ≡ Err (faultAt NotDotted at) → First-misfit text (prefixLength text) at
 malformed text at e = go (faulty (prefixLength text) (drop (prefixLength text) text)) refl
   where
-    go : (o : Option ℕ) → faulty (prefixLength text) (drop (prefixLength text) text) ≡ o → First-misfit text (prefixLength text) at
+    go : (o : Option ℕ) → faulty (prefixLength text) (drop (prefixLength text) text) ≡ o
+        → First-misfit text (prefixLength text) at
     go (Some k) same =
         let here : k ≡ at = ap offsetIn (sym (read-malformed text (prefixLength text) refl k (sym same)) ∙ e) in
         first-misfit text (prefixLength text) (prefix-within text) at (same ∙ ap Some here)
@@ -101,7 +103,8 @@ module _ (text before : List ℕ) (answer : Result (Unit {0}) Fault) (arcs : Lis
   pub malformed-at-first : Malformed-at-first text answer
   malformed-at-first at e = malformed text at (told (readDotted text) (sym value ∙ e))
     where
-      told : (reading : Result (List ℕ) Fault) → answered reading ≡ Err (faultAt NotDotted at) → reading ≡ Err (faultAt NotDotted at)
+      told : (reading : Result (List ℕ) Fault) → answered reading ≡ Err (faultAt NotDotted at)
+          → reading ≡ Err (faultAt NotDotted at)
       told (Ok found) h = let z : _≡_ {A = ℕ} 0 1 = cc in absurd (omega arith)
       told (Err fault) h = cc
 

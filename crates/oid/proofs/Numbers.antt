@@ -148,11 +148,14 @@ refusedBy (Err fault) = numberOf (fault .refusal)
 
 module _ (refusal : Refusal) (apart : numberOf refusal ≡ 1 → ⊥) (others : Result (List ℕ) Fault) (offset : ℕ) where
   -- a question with another refusal said yes, and the others were put
-  past-offset : (o : Option ℕ) → ask (mapped (faultAt refusal) o) others ≡ Err (faultAt NotDotted offset) → others ≡ Err (faultAt NotDotted offset)
+  past-offset : (o : Option ℕ) → ask (mapped (faultAt refusal) o) others ≡ Err (faultAt NotDotted offset)
+      → others ≡ Err (faultAt NotDotted offset)
   past-offset None e = e
   past-offset (Some n) e = absurd (apart (ap refusedBy e))
 
-  past-test : (v : Bool) (at : ℕ) → ask (cond v None (Some (faultAt refusal at))) others ≡ Err (faultAt NotDotted offset) → others ≡ Err (faultAt NotDotted offset)
+  past-test : (v : Bool) (at : ℕ)
+      → ask (cond v None (Some (faultAt refusal at))) others ≡ Err (faultAt NotDotted offset)
+      → others ≡ Err (faultAt NotDotted offset)
   past-test true at e = e
   past-test false at e = absurd (apart (ap refusedBy e))
 
@@ -163,6 +166,7 @@ never-malformed numbers offset e =
     let zeros = past-offset LeadingZero (λ h. omega arith) _ offset (firstAt (λ number. number .padded) numbers) e in
     let larges = past-offset ArcTooLarge (λ h. omega arith) _ offset (firstAt tooLarge numbers) zeros in
     let count = past-test ArcCount (λ h. omega arith) _ offset (rightCount (length numbers)) 0 larges in
-    let start = past-test FirstArcs (λ h. omega arith) _ offset (startsWell (getD (values numbers) 0 0) (getD (values numbers) 1 0)) _ count in
+    let start =
+    past-test FirstArcs (λ h. omega arith) _ offset (startsWell (getD (values numbers) 0 0) (getD (values numbers) 1 0)) _ count in
     let z : _≡_ {A = ℕ} 0 1 = ap refusedBy start in
     omega arith

@@ -60,7 +60,8 @@ module _ (line input : List ℕ) (i : ℕ) (inside : i < length input) where
   pub underway-feed : getD input i 0 ≡ lineFeed → underway line (drop i input) ≡ underway [] (drop (i + 1) input)
   underway-feed h = by-first ∙ cond-true _ _ _ (eq-eqb (getD input i 0) lineFeed h)
 
-  pub underway-byte : (getD input i 0 ≡ lineFeed → ⊥) → underway line (drop i input) ≡ underway (line ++ getD input i 0 ∷ []) (drop (i + 1) input)
+  pub underway-byte : (getD input i 0 ≡ lineFeed → ⊥)
+      → underway line (drop i input) ≡ underway (line ++ getD input i 0 ∷ []) (drop (i + 1) input)
   underway-byte h = by-first ∙ cond-false _ _ _ (ne-eqb (getD input i 0) lineFeed h)
 
 pub underway-end : (line input : List ℕ) (i : ℕ) → length input ≤ i → underway line (drop i input) ≡ line
