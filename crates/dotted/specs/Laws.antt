@@ -1,20 +1,20 @@
 -- Laws of dotted text, over the reading and the text that the contracts cite.
 use Prim.Native.Nat.{ℕ, _+_, _-_, _≤_, _<_}
-use mathlib.Core.Bool.{Bool, true, false, _&&_, _||_}
+use mathlib.Core.Bool.{Bool, true, false, cond, _&&_, _||_}
 use mathlib.Core.List.{List, _++_}
 use mathlib.Core.Path.{_≡_}
 use lib.Chars.{codes}
-use lib.Dec.{ltb}
+use lib.Dec.{eqb, ltb}
 use lib.ListN.{length, drop, getD}
 use Rattle.std.specs.Holes.{between}
 use Rattle.std.specs.Results.{mapped}
 use Rattle.std.specs.declared.result.Result.{Result}
 use Rattle.std.specs.declared.result.Result.the-variants.{Ok, Err}
-use Rattle.oid.specs.Refusals.{faultAt, answered}
+use Rattle.oid.specs.Refusals.{numberOf, faultAt, answered}
 use Rattle.oid.specs.Tree.{isIdentifier}
 use Rattle.oid.specs.declared.refusal.Fault.{Fault}
 use Rattle.oid.specs.declared.refusal.Refusal.{Refusal}
-use Rattle.oid.specs.declared.refusal.Refusal.the-variants.{NotDotted, LeadingZero, ArcTooLarge, ArcCount, FirstArcs, PageTooShort}
+use Rattle.oid.specs.declared.refusal.Refusal.the-variants.{NotDotted, LeadingZero, ArcCount, FirstArcs}
 use Rattle.dotted.specs.Form.{isDot, isDigit}
 use Rattle.dotted.specs.Prefix.{prefix, prefixLength}
 use Rattle.dotted.specs.Reading.{readDotted}
@@ -43,14 +43,9 @@ One-text =
     → readDotted one ≡ Ok arcs → readDotted other ≡ Ok arcs
     → one ≡ other
 
--- the offset of a fault, so many bytes further on; the count of arcs is at no byte, and stays at 0
+-- the offset of a fault, so many bytes further on; a wrong count of arcs is at no byte, and stays at 0
 abbrev pub offsetFurther : ℕ → Refusal → ℕ → ℕ
-offsetFurther bytes NotDotted offset = offset + bytes
-offsetFurther bytes LeadingZero offset = offset + bytes
-offsetFurther bytes ArcTooLarge offset = offset + bytes
-offsetFurther bytes ArcCount offset = offset
-offsetFurther bytes FirstArcs offset = offset + bytes
-offsetFurther bytes PageTooShort offset = offset
+offsetFurther bytes refusal offset = cond (eqb (numberOf refusal) (numberOf ArcCount)) offset (offset + bytes)
 
 abbrev pub further : ℕ → Fault → Fault
 further bytes fault = faultAt (fault .refusal) (offsetFurther bytes (fault .refusal) (fault .offset))
@@ -78,7 +73,7 @@ fitsAt text start i =
     isDigit (getD text i 0)
     || (isDot (getD text i 0) && ((ltb start i && isDigit (getD text (i - 1) 0)) && isDigit (getD text (i + 1) 0)))
 
--- The first place from `start` on where no byte fits; the end is one, since no byte stands there.
+-- The first index from `start` on where no byte fits. The end is such an index, since no byte stands there.
 abbrev pub First-misfit : List ℕ → ℕ → ℕ → Type 0
 First-misfit text start at =
     (start ≤ at) × (fitsAt text start at ≡ false) × ((i : ℕ) → start ≤ i → i < at → fitsAt text start i ≡ true)

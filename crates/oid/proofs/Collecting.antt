@@ -98,9 +98,9 @@ collected-more before after numeral none count arcs places padded some large num
       arcs =
           ap (take all) (arcs ∙ ap (λ n. set (before .arcs) (before .count) (valueOr (n .arc) 0)) seen)
           ∙ holds-mapped storedArc (before .arcs) numbers (before .count) number (known .count) (before .«arc_places») (known .arcs);
-      places =
+      starts =
           ap (take all) (places ∙ ap (λ n. set (before .offsets) (before .count) (n .offset)) seen)
-          ∙ holds-mapped (λ n. n .offset) (before .offsets) numbers (before .count) number (known .count) (before .«offset_places») (known .places);
+          ∙ holds-mapped (λ n. n .offset) (before .offsets) numbers (before .count) number (known .count) (before .«offset_places») (known .starts);
       padded =
           padded ∙ (λ i. orOther (known .padded i) (offsetIf (seen i .padded) (seen i .offset)))
           ∙ sym (firstAt-push (λ n. n .padded) numbers number);
@@ -153,6 +153,6 @@ module _ (collector : Collector) (numbers : List Number) (known : Collected coll
       let small : place ≤ 1 =
       cond-both (ltb lastRoot (getD (values numbers) 0 0)) 0 1 (λ n. n ≤ 1) (λ _. omega arith) (λ _. omega arith) in
       let there : getD (collector .offsets) place 0 ≡ getD (offsets numbers) place 0 =
-      getD-fronts (collector .offsets) (offsets numbers) (length numbers) mostArcs place (known .places) (omega (arith, count-is)) (omega arith) in
+      getD-fronts (collector .offsets) (offsets numbers) (length numbers) mostArcs place (known .starts) (omega (arith, count-is)) (omega arith) in
       ap (λ n. Err (faultAt FirstArcs n)) (at ∙ ap (λ n. getD (collector .offsets) (cond (ltb 2 n) 0 1) 0) first ∙ there)
       ∙ sym (read-start numbers zero-none large-none enough ill)

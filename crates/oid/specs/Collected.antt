@@ -28,7 +28,7 @@ storedArc number = valueOr (arcOf (number .value)) 0
 pub record Collected (collector : Collector) (numbers : List Number) : Type 0 where
   pub count : collector .count ≡ min (length numbers) (mostArcs + 1)
   pub arcs : take (length numbers) (collector .arcs) ≡ take mostArcs (map storedArc numbers)
-  pub places : take (length numbers) (collector .offsets) ≡ take mostArcs (offsets numbers)
+  pub starts : take (length numbers) (collector .offsets) ≡ take mostArcs (offsets numbers)
   pub padded : collector .padded ≡ firstAt (λ number. number .padded) numbers
   pub large : collector .large ≡ firstAt tooLarge numbers
 

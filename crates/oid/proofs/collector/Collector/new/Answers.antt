@@ -4,4 +4,4 @@ use Rattle.oid.proofs.collector.Collector.new.Needs as need
 
 pub returns : need.returns
 unfolding firstAt
-returns c = record { count = refl; arcs = refl; places = refl; padded = refl; large = refl }
+returns c = record { count = refl; arcs = refl; starts = refl; padded = refl; large = refl }
