@@ -57,7 +57,7 @@ module _ (text : List ℕ) (start : ℕ) where
 
       go : (v : Bool) → fitsAt text start i ≡ v → First-misfit text start at
       go true h = ih (fit-more i fit h) at (onward h)
-      go false h = let same : i ≡ at = cc (here h) in subst (First-misfit text start) same (low, h, fit)
+      go false h = let same : i ≡ at = cc (here h) in subst (First-misfit text start) same (low, h, fit, λ _. inside)
 
   walk : (n i : ℕ) → i + n ≡ length text → start ≤ i → Told i
   walk zero i left low fit at e =
@@ -84,4 +84,4 @@ module _ (text : List ℕ) (start : ℕ) where
       none : length text ≤ start → First-misfit text start at
       none past =
           let same : start ≡ at = cc (faulty-empty text start past) in
-          subst (First-misfit text start) same (omega arith, end-misfit past, λ k low high. absurd (omega arith))
+          subst (First-misfit text start) same (omega arith, end-misfit past, λ k low high. absurd (omega arith), λ inside. absurd (omega arith))

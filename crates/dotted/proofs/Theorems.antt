@@ -87,7 +87,7 @@ malformed text at e = go (faulty (prefixLength text) (drop (prefixLength text) t
 
 -- what a reader owes that answers as the reading says
 module _ (text before : List ℕ) (answer : Result (Unit {0}) Fault) (arcs : List ℕ) (value : answer ≡ answered (readDotted text)) (after : arcs ≡ filled (readDotted text) before) where
-  pub exactly : Exactly text answer arcs
+  exactly : Exactly text answer arcs
   exactly = (λ e. to (readDotted text) refl (sym value ∙ e), λ others writes. from others (accepts text others .1 writes))
     where
       to : (reading : Result (List ℕ) Fault) → readDotted text ≡ reading → answered reading ≡ Ok tt → Writes text arcs
@@ -97,16 +97,19 @@ module _ (text before : List ℕ) (answer : Result (Unit {0}) Fault) (arcs : Lis
       from : (others : List ℕ) → readDotted text ≡ Ok others → (answer ≡ Ok tt) × (arcs ≡ others)
       from others same = (value ∙ ap answered same, after ∙ ap (λ r. filled r before) same)
 
-  pub prefixed : Prefixed text answer
+  prefixed : Prefixed text answer
   prefixed rest p e = value ∙ ap answered (ap readDotted e ∙ prefix-moves-faults rest p)
 
-  pub malformed-at-first : Malformed-at-first text answer
+  malformed-at-first : Malformed-at-first text answer
   malformed-at-first at e = malformed text at (told (readDotted text) (sym value ∙ e))
     where
       told : (reading : Result (List ℕ) Fault) → answered reading ≡ Err (faultAt NotDotted at)
           → reading ≡ Err (faultAt NotDotted at)
       told (Ok found) h = let z : _≡_ {A = ℕ} 0 1 = cc in absurd (omega arith)
       told (Err fault) h = cc
+
+  pub reader-laws : Exactly text answer arcs × Prefixed text answer × Malformed-at-first text answer
+  reader-laws = (exactly, prefixed, malformed-at-first)
 
 pub one-text : One-text
 one-text one other arcs p q r s =

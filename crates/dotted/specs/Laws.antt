@@ -47,6 +47,7 @@ One-text =
 abbrev pub offsetFurther : ℕ → Refusal → ℕ → ℕ
 offsetFurther bytes refusal offset = cond (eqb (numberOf refusal) (numberOf ArcCount)) offset (offset + bytes)
 
+-- the same fault, so many bytes further on
 abbrev pub further : ℕ → Fault → Fault
 further bytes fault = faultAt (fault .refusal) (offsetFurther bytes (fault .refusal) (fault .offset))
 
@@ -73,10 +74,13 @@ fitsAt text start i =
     isDigit (getD text i 0)
     || (isDot (getD text i 0) && ((ltb start i && isDigit (getD text (i - 1) 0)) && isDigit (getD text (i + 1) 0)))
 
--- The first index from `start` on where no byte fits. The end is such an index, since no byte stands there.
+-- The first index from `start` on where no byte fits. A byte stands there, unless none follows `start`.
 abbrev pub First-misfit : List ℕ → ℕ → ℕ → Type 0
 First-misfit text start at =
-    (start ≤ at) × (fitsAt text start at ≡ false) × ((i : ℕ) → start ≤ i → i < at → fitsAt text start i ≡ true)
+    (start ≤ at)
+    × (fitsAt text start at ≡ false)
+    × ((i : ℕ) → start ≤ i → i < at → fitsAt text start i ≡ true)
+    × (start < length text → at < length text)
 
 -- A text that a reader refuses for its form is refused at the first byte that does not fit, or at the prefix's end.
 abbrev pub Malformed-at-first : List ℕ → Result (Unit {0}) Fault → Type 0

@@ -18,6 +18,7 @@ numberOf ArcCount = 4
 numberOf FirstArcs = 5
 numberOf PageTooShort = 25
 
+-- a refusal as a fault, found at an offset
 abbrev pub faultAt : Refusal → ℕ → Fault
 faultAt refusal offset = record { refusal = refusal; offset = offset }
 

@@ -22,6 +22,7 @@ lastRoot = 2
 abbrev pub lastSecond : ℕ
 lastSecond = 39
 
+-- every number of the list is an arc
 unfoldable pub allArcs : List ℕ → Bool
 allArcs [] = true
 allArcs (n ∷ ns) = isArc n && allArcs ns

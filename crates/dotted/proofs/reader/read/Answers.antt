@@ -4,7 +4,7 @@ use Rattle.std.proofs.shelf.Results.{err-from-errBy}
 use Rattle.oid.specs.Meaning.{arcsOf}
 use Rattle.oid.specs.Refusals.{answered, filled}
 use Rattle.dotted.proofs.Reading.{read-malformed, read-formed}
-use Rattle.dotted.proofs.Theorems.{exactly, prefixed, malformed-at-first}
+use Rattle.dotted.proofs.Theorems.{reader-laws}
 use Rattle.dotted.proofs.reader.read.Needs as need
 
 pub first-fault-requires : need.first-fault-requires
@@ -19,14 +19,8 @@ returns-in-Some c =
     read-malformed (c .args .text .now) (c .prefix-length-start .result) (c .prefix-length-start .ensures .value) (c .in-Some .offset) (c .in-Some .ensures tt) in
     let value = ap Err (c .at .ensures) ∙ sym (ap answered is) in
     let after = sym (ap (λ r. filled r (arcsOf (c .args .identifier .now))) is) in
-    record {
-      value = value;
-      after = after;
-      same = refl;
-      exactly = exactly (c .args .text .now) (arcsOf (c .args .identifier .now)) _ _ value after;
-      prefixed = prefixed (c .args .text .now) (arcsOf (c .args .identifier .now)) _ _ value after;
-      first = malformed-at-first (c .args .text .now) (arcsOf (c .args .identifier .now)) _ _ value after;
-    }
+    let laws = reader-laws (c .args .text .now) (arcsOf (c .args .identifier .now)) _ _ value after in
+    record { value = value; after = after; same = refl; exactly = laws .0; prefixed = laws .1; first = laws .2 }
 
 pub returns-in-Break-identifier : need.returns-in-Break-identifier
 returns-in-Break-identifier c =
@@ -36,14 +30,8 @@ returns-in-Break-identifier c =
     let p = err-from-errBy (c .from-residual .result) (c .from-residual .ensures .1) in
     let value = p .1 ∙ ap Err (p .2) ∙ ap answered is in
     let after = ap (λ r. filled r (arcsOf (c .args .identifier .now))) is in
-    record {
-      value = value;
-      after = after;
-      same = rw (p .1) refl;
-      exactly = exactly (c .args .text .now) (arcsOf (c .args .identifier .now)) _ _ value after;
-      prefixed = prefixed (c .args .text .now) (arcsOf (c .args .identifier .now)) _ _ value after;
-      first = malformed-at-first (c .args .text .now) (arcsOf (c .args .identifier .now)) _ _ value after;
-    }
+    let laws = reader-laws (c .args .text .now) (arcsOf (c .args .identifier .now)) _ _ value after in
+    record { value = value; after = after; same = rw (p .1) refl; exactly = laws .0; prefixed = laws .1; first = laws .2 }
 
 pub returns : need.returns
 returns c =
@@ -52,11 +40,5 @@ returns c =
     let is = c .in-Continue-identifier .ensures tt _ (c .collect-numbers .ensures) ∙ sym formed in
     let value = ap answered is in
     let after = ap (λ r. filled r (arcsOf (c .args .identifier .now))) is in
-    record {
-      value = value;
-      after = after;
-      same = tt;
-      exactly = exactly (c .args .text .now) (arcsOf (c .args .identifier .now)) _ _ value after;
-      prefixed = prefixed (c .args .text .now) (arcsOf (c .args .identifier .now)) _ _ value after;
-      first = malformed-at-first (c .args .text .now) (arcsOf (c .args .identifier .now)) _ _ value after;
-    }
+    let laws = reader-laws (c .args .text .now) (arcsOf (c .args .identifier .now)) _ _ value after in
+    record { value = value; after = after; same = tt; exactly = laws .0; prefixed = laws .1; first = laws .2 }
