@@ -1,4 +1,6 @@
 // Object identifiers: arcs, the tree's rule, and what every notation of identifiers shares.
+#![tactic(auto)]
+
 pub mod arc;
 pub mod collector;
 pub mod identifier;

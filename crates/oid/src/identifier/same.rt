@@ -1,22 +1,27 @@
 // Equality of identifiers: they are equal exactly when their arcs are.
-ghost use Rattle.std.specs.Prelude.{◌≡◌, Decides};
-ghost use Rattle.oid.specs.Meaning.{arcs_of};
+ghost use Rattle.std.specs.Prelude.{◌≡◌, ◌==◌, Decides};
+ghost use Rattle.std.specs.List.{pointwise};
+ghost use Rattle.std.specs.Ordering.{on};
+ghost use Rattle.std.specs.Cmp.{partial_equiv_from_equiv};
 ghost use Rattle.std.specs.Cmp.Rules.{comparing};
-ghost use Rattle.std.proofs.Common.{rules, arith};
-ghost use Rattle.std.specs.Cmp as Keys;
+ghost use Rattle.std.proofs.Common.{rules};
+ghost use Rattle.oid.specs.Meaning.{arcs_of};
 
 use super::Identifier;
 
 impl PartialEq for Identifier {
-    ghost equals = { λ a b r. Decides r (a ≡ b) × Decides r (arcs_of a ≡ arcs_of b) };
+    ghost eq = { on arcs_of (pointwise ◌==◌) };
 
-    ghost laws = { Keys.partial_equiv_from_equiv (first_of (Prim.search (comparing, rules), Prim.grind (arith, Self.row.coded.inj))) };
+    ghost laws = { partial_equiv_from_equiv (Prim.search (comparing, rules)) };
 
-    fn eq(&self, other: &Identifier) -> bool {
+    fn eq(&self, other: &Identifier) -> bool
+        ensures value { result ≡ on arcs_of (pointwise ◌==◌) self.now other.now }
+        ensures decides { Decides result (self.now ≡ other.now) × Decides result (arcs_of self.now ≡ arcs_of other.now) }
+    {
         self.arcs() == other.arcs()
     }
 }
 
 impl Eq for Identifier {
-    ghost laws = { first_of (Prim.search (comparing, rules), Prim.grind (arith, Self.row.coded.inj)) };
+    ghost laws = { Prim.search (comparing, rules) };
 }

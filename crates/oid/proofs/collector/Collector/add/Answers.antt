@@ -7,10 +7,10 @@ pub returns : goal.returns
 returns c =
     let before = c.args.self.now in
     let put = c.put.ensures in
-    collected_more before _ c.args.numeral c.is-none.result
+    collected_more before _ c.args.numeral c.is_none.result
     put.count
-    (put.arcs ∙ ap (set before.arcs before.count) c.unwrap-or.ensures)
+    (put.arcs ∙ ap (set before.arcs before.count) c.unwrap_or.ensures)
     put.offsets
-    (c.or-self.ensures ∙ λ i. option_or (put.same.0 i) (c.offset-if.ensures i))
-    c.is-none.ensures
+    (c.or-self.ensures ∙ λ i. option_or (put.same.0 i) (c.offset_if.ensures i))
+    c.is_none.ensures
     (c.or-self-2.ensures ∙ λ i. option_or (put.same.1 i) (c.offset-if-2.ensures i))

@@ -13,7 +13,7 @@ returns-in-Some c numbers known =
 pub returns-in-Some-large : goal.returns-in-Some-large
 returns-in-Some-large c numbers known =
     ap Err c.at-in-Some-large.ensures
-    ∙ sym (read_large numbers (sym known.padded ∙ c.in-default.is) c.in-Some-large.offset (sym known.large ∙ c.in-Some-large.is))
+    ∙ sym (read_large numbers (sym known.padded ∙ c.in_default.is) c.in-Some-large.offset (sym known.large ∙ c.in-Some-large.is))
 
 pub returns-then-self-lt-FEWEST-ARCS : goal.returns-then-self-lt-FEWEST-ARCS
 returns-then-self-lt-FEWEST-ARCS c numbers known =
@@ -34,5 +34,5 @@ returns-in-None c numbers known =
     let g = c.args.self.now in
     let from_0 : g.count - 0 ≡ g.count = omega arith in
     ap Err c.at-in-None.ensures
-    ∙ finish_none g numbers known c.in-default.is c.in-default-large.is c.if-self-lt-FEWEST-ARCS.false c.if-self-gt-MOST-ARCS.false _
+    ∙ finish_none g numbers known c.in_default.is c.in_default-large.is c.if-self-lt-FEWEST_ARCS.false c.if-self-gt-MOST-ARCS.false _
     (c.in-None.ensures ∙ ap (λ n. identified (take n g.arcs)) from_0) c.wrong-arc-offset.ensures

@@ -9,8 +9,8 @@ pub returns : goal.returns
 returns c =
     let list = c.arcs.result.now in
     let front = c.arcs-2.result.now in
-    let is : c.starts-with.result ≡ at_or_below list front =
-    begins_is list front _ (starts_is Decides-eqb list front _ c.starts-with.ensures.value) in
+    let is : c.starts_with.result ≡ at_or_below list front =
+    begins_is list front _ (starts_is Decides-eqb list front _ c.starts_with.ensures.value) in
     let p = c.arcs.ensures.value in
     let q = c.arcs-2.ensures.value in
     cc

@@ -19,5 +19,5 @@ returns c =
     let i = c.args.self.now in
     let room = lt-ltb (length (arcs_of i)) most_arcs (omega (arith, len_is i)) in
     let both =
-    and_from (ltb (length (arcs_of i)) most_arcs) _ room (arc_found c.args.arc _ (c.arc-of.ensures ∙ ap arc_of c.from.ensures) true c.if-is-none.ensures) in
+    and_from (ltb (length (arcs_of i)) most_arcs) _ room (arc_found c.args.arc _ (c.arc_of.ensures ∙ ap arc_of c.from.ensures) true c.if-is_none.ensures) in
     ap Some (take_laid _ _ _ (laid_child i c.args.arc (omega arith))) ∙ sym (cond-true _ _ _ both)

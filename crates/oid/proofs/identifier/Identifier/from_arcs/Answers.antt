@@ -13,5 +13,5 @@ invariant-of-result c =
 
 pub returns : goal.returns
 returns c =
-    ap Some (take_laid _ c.args.arcs.now _ (refl, c.filled-up.ensures))
-    ∙ sym (cond-true _ _ _ (sym c.if-not-keeps-rule.ensures))
+    ap Some (take_laid _ c.args.arcs.now _ (refl, c.filled_up.ensures))
+    ∙ sym (cond-true _ _ _ (sym c.if-not-keeps_rule.ensures))

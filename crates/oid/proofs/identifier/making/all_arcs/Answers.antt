@@ -15,7 +15,7 @@ returns-then-is-none c =
 
 pub loop-number-preserved : goal.loop-number-preserved
 loop-number-preserved c =
-    let told = c.if-is-none.ensures in
+    let told = c.if-is_none.ensures in
     let seen = is_arc_is c.from.result in
     let an_arc : is_arc (get_or c.args.numbers.now c.loop-number.number-index 0) ≡ true = cc in
     sym (all_arcs_more c.args.numbers.now c.loop-number.number-index (omega arith) an_arc) ∙ c.loop-number.invariant

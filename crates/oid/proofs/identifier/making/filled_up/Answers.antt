@@ -9,4 +9,4 @@ returns c =
     let whole : n - 0 ≡ n = omega arith in
     let rest : drop (n - 0) (replicate most_arcs 0) ≡ replicate (most_arcs - n) 0 =
     ap (λ k. drop k (replicate most_arcs 0)) whole ∙ drop-replicate n most_arcs 0 in
-    λ i. c.copy-from-slice.ensures.after i ++ rest i
+    λ i. c.copy_from_slice.ensures.after i ++ rest i
