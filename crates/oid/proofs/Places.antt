@@ -19,14 +19,24 @@ pub drop_laid : (places list : List ℕ) (len : ℕ) → Laid places len list �
 drop_laid places list len h = ap (drop len) h.1 ∙ drop_at list _ len (sym h.0)
 
 -- the four facts that the type asks
-pub owed : (places list : List ℕ) (len : ℕ) → Laid places len list → Keeps list
-    → (length places ≡ most_arcs) × ((len ≤ most_arcs) × ((is_identifier (take len places) ≡ true) × ((drop len places ≡ replicate (most_arcs - len) 0) × Unit {0})))
+pub record Owed (held : List ℕ) (len : ℕ) : Type 0 where
+  pub places : length held ≡ most_arcs
+  pub within : len ≤ most_arcs
+  pub rule : is_identifier (take len held) ≡ true
+  pub rest : drop len held ≡ replicate (most_arcs - len) 0
+
+pub owed : (places list : List ℕ) (len : ℕ) → Laid places len list → Keeps list → Owed places len
 owed places list len h k =
     let short = k.short in
     let e = h.0 in
     let whole = ap length h.1 ∙ length-append list (replicate (most_arcs - len) 0) in
     let rest = length-replicate {A = ℕ} (most_arcs - len) 0 in
-    (omega arith, (omega arith, (ap is_identifier (take_laid places list len h) ∙ kept list k, (drop_laid places list len h, tt))))
+    record {
+      places = omega arith;
+      within = omega arith;
+      rule = ap is_identifier (take_laid places list len h) ∙ kept list k;
+      rest = drop_laid places list len h;
+    }
 
 module _ (i : Identifier) where
   -- the length is that of the list

@@ -13,4 +13,4 @@ returns c =
     put.offsets
     (c.or-self.ensures ∙ λ i. option_or (put.same.0 i) (c.offset_if.ensures i))
     c.is_none.ensures
-    (c.or-self-2.ensures ∙ λ i. option_or (put.same.1 i) (c.offset-if-2.ensures i))
+    (c.or-self-2.ensures ∙ λ i. option_or (put.same.1 i) (c.offset_if-2.ensures i))

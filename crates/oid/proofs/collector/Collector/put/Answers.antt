@@ -2,8 +2,8 @@ use Rattle.std.proofs.Common.{sym, refl, arith}
 use Rattle.std.proofs.lemmas.List.{set_past}
 use Rattle.oid.proofs.collector.Collector.put.Goals as goal
 
-pub returns-else-self-lt-MOST-ARCS : goal.returns-else-self-lt-MOST-ARCS
-returns-else-self-lt-MOST-ARCS c =
+pub returns-else-self-lt-MOST_ARCS : goal.returns-else-self-lt-MOST_ARCS
+returns-else-self-lt-MOST_ARCS c =
     let before = c.args.self.now in
     record {
       arcs = sym (set_past before.arcs before.count _ (omega (arith, before.arc_places)));

@@ -8,11 +8,13 @@ use Rattle.oid.proofs.Places.{owed, take_laid, laid_child, len_is, keeps_arcs}
 use Rattle.oid.proofs.Tree.{keeps_push}
 use Rattle.oid.proofs.identifier.Identifier.child.Goals as goal
 
-pub invariant-of-result : goal.invariant-of-result
-invariant-of-result c =
+pub invariant_of-result : goal.invariant_of-result
+invariant_of-result c =
     let i = c.args.self.now in
-    owed _ (arcs_of i ++ c.args.arc ∷ []) _ (laid_child i c.args.arc (omega arith))
-    (keeps_push (arcs_of i) c.args.arc (keeps_arcs i) (omega (arith, len_is i)) (arc_found c.args.arc _ (c.arc-of.ensures ∙ ap arc_of c.from.ensures) true c.if-is-none.ensures))
+    let facts = owed _ (arcs_of i ++ c.args.arc ∷ []) _ (laid_child i c.args.arc (omega arith))
+        (keeps_push (arcs_of i) c.args.arc (keeps_arcs i) (omega (arith, len_is i)) (arc_found c.args.arc _ (c.arc_of.ensures ∙ ap arc_of c.from.ensures) true c.if-is_none.ensures)) in
+    record { places = facts.places; within = facts.within; rule = facts.rule; rest = facts.rest }
+
 
 pub returns : goal.returns
 returns c =

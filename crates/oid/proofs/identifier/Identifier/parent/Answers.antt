@@ -6,11 +6,13 @@ use Rattle.oid.proofs.Places.{owed, take_laid, laid_parent, len_is, keeps_arcs}
 use Rattle.oid.proofs.Tree.{keeps_take}
 use Rattle.oid.proofs.identifier.Identifier.parent.Goals as goal
 
-pub invariant-of-result : goal.invariant-of-result
-invariant-of-result c =
+pub invariant_of-result : goal.invariant_of-result
+invariant_of-result c =
     let i = c.args.self.now in
-    owed _ (take (i.len - 1) (arcs_of i)) _ (laid_parent i (omega arith))
-    (keeps_take (i.len - 1) (arcs_of i) (keeps_arcs i) (omega arith) (omega (arith, len_is i)))
+    let facts = owed _ (take (i.len - 1) (arcs_of i)) _ (laid_parent i (omega arith))
+        (keeps_take (i.len - 1) (arcs_of i) (keeps_arcs i) (omega arith) (omega (arith, len_is i))) in
+    record { places = facts.places; within = facts.within; rule = facts.rule; rest = facts.rest }
+
 
 pub returns : goal.returns
 returns c =

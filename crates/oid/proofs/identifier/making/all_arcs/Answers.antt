@@ -6,9 +6,9 @@ use Rattle.oid.proofs.Arcs.{is_arc_is}
 use Rattle.oid.proofs.Tree.{all_arcs_more, all_arcs_stop}
 use Rattle.oid.proofs.identifier.making.all_arcs.Goals as goal
 
-pub returns-then-is-none : goal.returns-then-is-none
-returns-then-is-none c =
-    let told = c.if-is-none.ensures in
+pub returns-then-is_none : goal.returns-then-is_none
+returns-then-is_none c =
+    let told = c.if-is_none.ensures in
     let seen = is_arc_is c.from.result in
     let not_arc : is_arc (get_or c.args.numbers.now c.loop-number.number-index 0) ≡ false = cc in
     sym (all_arcs_stop c.args.numbers.now c.loop-number.number-index (omega arith) not_arc) ∙ c.loop-number.invariant
