@@ -1,4 +1,6 @@
 // Dotted text: identifiers as decimal arcs with dots between them, with or without the prefix of RFC 3061.
+#![tactic(auto)]
+
 mod decimal;
 mod form;
 pub mod laws;

@@ -4,17 +4,17 @@ use Rattle.std.proofs.lemmas.List.{length-set}
 use Rattle.dotted.proofs.Digits.{length_digit, length_step, page_step, page_last}
 use Rattle.dotted.proofs.decimal.write_number.Goals as goal
 
-pub overflow-sub-at : goal.overflow-sub-at
-overflow-sub-at c = omega (arith, decimal_nonempty c.args.number (omega arith))
+pub overflow_sub-at : goal.overflow_sub-at
+overflow_sub-at c = omega (arith, decimal_nonempty c.args.number (omega arith))
 
 pub loop-rest-init : goal.loop-rest-init
 loop-rest-init c =
     let some = decimal_nonempty c.args.number (omega arith) in
-    let all : c.digit-count-count.result - 1 + 1 ≡ length (decimal c.args.number) = omega arith in
+    let all : c.digit_count-count.result - 1 + 1 ≡ length (decimal c.args.number) = omega arith in
     (omega arith, omega arith, all, ap (λ n. decimal c.args.number ++ drop n c.args.page.now) all)
 
-pub overflow-sub-at-in-loop-rest : goal.overflow-sub-at-in-loop-rest
-overflow-sub-at-in-loop-rest c =
+pub overflow_sub-at-in-loop-rest : goal.overflow_sub-at-in-loop-rest
+overflow_sub-at-in-loop-rest c =
     let rest = c.loop-rest.rest in
     omega (arith, length_step rest (omega arith) (omega arith), decimal_nonempty (rest / 10) (omega arith))
 
@@ -37,7 +37,7 @@ returns c =
     let first : c.loop-rest.at ≡ 0 = omega arith in
     let second : 1 ≡ c.loop-rest.at + 1 = omega arith in
     record {
-      value = c.digit-count-count.ensures;
+      value = c.digit_count-count.ensures;
       after =
           (λ k. set page (first k) (c.digit-2.ensures k))
           ∙ page_last rest page (omega arith) (omega arith)

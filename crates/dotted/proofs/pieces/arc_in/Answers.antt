@@ -7,7 +7,7 @@ use Rattle.dotted.proofs.pieces.arc_in.Goals as goal
 
 pub loop-digit-preserved : goal.loop-digit-preserved
 loop-digit-preserved c =
-    c.with-digit-arc.ensures _ c.loop-digit.invariant
+    c.with_digit-arc.ensures _ c.loop-digit.invariant
     ∙ sym (ap arc_of (value_more c.args.digits.now c.loop-digit.digit-index (omega arith)))
 
 pub returns : goal.returns

@@ -12,21 +12,21 @@ added c =
     let text = c.args.text.now in
     let at = c.loop-end.at in
     let done = c.loop-end.invariant.1.0 in
-    let here = digits_here text at c.loop-end.invariant.0 done c.piece-end-end.result c.piece-end-end.ensures.value in
-    c.add.ensures done _ (c.numeral-in.ensures ∙ ap (λ l. numeral_of (number_in (record { offset = at; digits = l }))) here) c.loop-end.invariant.1.1
+    let here = digits_here text at c.loop-end.invariant.0 done c.piece_end-end.result c.piece_end-end.ensures.value in
+    c.add.ensures done _ (c.numeral_in.ensures ∙ ap (λ l. numeral_of (number_in (record { offset = at; digits = l }))) here) c.loop-end.invariant.1.1
 
 pub loop-end-smaller : goal.loop-end-smaller
-loop-end-smaller c = omega (arith, c.piece-end-end.ensures.value, c.piece-end-end.ensures.bound, c.if-end-text.false)
+loop-end-smaller c = omega (arith, c.piece_end-end.ensures.value, c.piece_end-end.ensures.bound, c.if-end-text.false)
 
 pub loop-end-preserved : goal.loop-end-preserved
 loop-end-preserved c =
-    let bound = c.piece-end-end.ensures.bound in
+    let bound = c.piece_end-end.ensures.bound in
     let next =
-    numbers_next c.args.text.now c.loop-end.at c.loop-end.invariant.0 c.loop-end.invariant.1.0 c.piece-end-end.result c.piece-end-end.ensures.value (omega (arith, bound, c.if-end-text.false)) in
+    numbers_next c.args.text.now c.loop-end.at c.loop-end.invariant.0 c.loop-end.invariant.1.0 c.piece_end-end.result c.piece_end-end.ensures.value (omega (arith, bound, c.if-end-text.false)) in
     (omega (arith, bound, c.if-end-text.false), (_, added (goal.at.loop-end-preserved c).After-add, next ∙ c.loop-end.invariant.1.2))
 
 pub returns : goal.returns
 returns c =
     let last =
-    numbers_last c.args.text.now c.loop-end.at c.loop-end.invariant.0 c.loop-end.invariant.1.0 c.piece-end-end.result c.piece-end-end.ensures.value c.if-end-text.true in
+    numbers_last c.args.text.now c.loop-end.at c.loop-end.invariant.0 c.loop-end.invariant.1.0 c.piece_end-end.result c.piece_end-end.ensures.value c.if-end-text.true in
     subst (Collected c.add.new.self) (last ∙ c.loop-end.invariant.1.2) (added (goal.at.returns c).After-add)

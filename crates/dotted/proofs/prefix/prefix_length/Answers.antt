@@ -5,16 +5,16 @@ use Rattle.dotted.specs.Prefix.{prefix, prefix_length}
 use Rattle.dotted.proofs.prefix.prefix_length.Goals as goal
 use Rattle.std.proofs.lemmas.Bool.Decides.{Decides-eqb}
 
-pub returns-then-starts-with : goal.returns-then-starts-with
+pub returns-then-starts_with : goal.returns-then-starts_with
 unfolding prefix_length prefix
-returns-then-starts-with c =
+returns-then-starts_with c =
     let is =
-    begins_is c.args.text.now prefix _ (starts_is Decides-eqb c.args.text.now prefix _ c.starts-with.ensures.value) in
-    record { value = ap (λ v. cond v (length prefix) 0) (sym c.if-starts-with.true ∙ is); bound = c.starts-with.ensures.bound c.if-starts-with.true }
+    begins_is c.args.text.now prefix _ (starts_is Decides-eqb c.args.text.now prefix _ c.starts_with.ensures.value) in
+    record { value = ap (λ v. cond v (length prefix) 0) (sym c.if-starts_with.true ∙ is); bound = c.starts_with.ensures.bound c.if-starts_with.true }
 
-pub returns-else-starts-with : goal.returns-else-starts-with
+pub returns-else-starts_with : goal.returns-else-starts_with
 unfolding prefix_length prefix
-returns-else-starts-with c =
+returns-else-starts_with c =
     let is =
-    begins_is c.args.text.now prefix _ (starts_is Decides-eqb c.args.text.now prefix _ c.starts-with.ensures.value) in
-    record { value = ap (λ v. cond v (length prefix) 0) (sym c.if-starts-with.false ∙ is); bound = omega arith }
+    begins_is c.args.text.now prefix _ (starts_is Decides-eqb c.args.text.now prefix _ c.starts_with.ensures.value) in
+    record { value = ap (λ v. cond v (length prefix) 0) (sym c.if-starts_with.false ∙ is); bound = omega arith }

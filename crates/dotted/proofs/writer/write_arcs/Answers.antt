@@ -8,17 +8,17 @@ use Rattle.dotted.proofs.writer.write_arcs.Goals as goal
 pub bounds-arcs-0 : goal.bounds-arcs-0
 bounds-arcs-0 c = omega (arith, some_arcs c.args.arcs.now c.requires.rule)
 
-pub write-arc-end-requires : goal.write-arc-end-requires
-write-arc-end-requires c =
+pub write_arc-end-requires : goal.write_arc-end-requires
+write_arc-end-requires c =
     omega (arith, c.requires.room, length_first c.args.arcs.now (omega (arith, some_arcs c.args.arcs.now c.requires.rule)))
 
 pub loop-i-init : goal.loop-i-init
 loop-i-init c =
     let first = length_first c.args.arcs.now (omega (arith, some_arcs c.args.arcs.now c.requires.rule)) in
-    (omega (arith, c.write-arc-end.ensures.value), refl)
+    (omega (arith, c.write_arc-end.ensures.value), refl)
 
-pub write-next-end-requires : goal.write-next-end-requires
-write-next-end-requires c =
+pub write_next-end-requires : goal.write_next-end-requires
+write_next-end-requires c =
     omega (arith, c.requires.room, c.loop-i.invariant.0, c.loop-i.auto.page, length_more c.args.arcs.now c.loop-i.i (omega arith))
 
 pub loop-i-preserved : goal.loop-i-preserved
@@ -32,7 +32,7 @@ loop-i-preserved c =
     let more = length_more arcs i (omega arith) in
     let room : end + length front ≤ length page = omega (arith, c.requires.room, c.loop-i.invariant.0, c.loop-i.auto.page) in
     let both = placed_both end front back page room ∙ ap (λ l. placed end l page) (sym (later_more arcs i (omega arith))) in
-    (omega (arith, c.loop-i.invariant.0, c.write-next-end.ensures.value), (λ k. placed (c.write-next-end.ensures.value k) back (c.write-next-end.ensures.after k)) ∙ both ∙ c.loop-i.invariant.1)
+    (omega (arith, c.loop-i.invariant.0, c.write_next-end.ensures.value), (λ k. placed (c.write_next-end.ensures.value k) back (c.write_next-end.ensures.after k)) ∙ both ∙ c.loop-i.invariant.1)
 
 pub returns : goal.returns
 returns c =
@@ -49,7 +49,7 @@ returns c =
     ap (λ l. placed c.loop-i.end l c.loop-i.page) none
     ∙ placed_none c.loop-i.end c.loop-i.page in
     let all =
-    (λ k. placed (c.write-arc-end.ensures.value k) back (c.write-arc-end.ensures.after k))
+    (λ k. placed (c.write_arc-end.ensures.value k) back (c.write_arc-end.ensures.after k))
     ∙ placed_both place front back page room
     ∙ ap (λ l. placed place l page) (sym (text_first arcs (omega arith))) in
     record {

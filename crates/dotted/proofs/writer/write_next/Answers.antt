@@ -11,8 +11,8 @@ returns c =
     let digits = decimal c.args.arc in
     let first = placed_one place dot page (omega arith) in
     record {
-      value = omega (arith, c.write-arc.ensures.value);
+      value = omega (arith, c.write_arc.ensures.value);
       after =
-          c.write-arc.ensures.after ∙ ap (placed (place + 1) digits) first
+          c.write_arc.ensures.after ∙ ap (placed (place + 1) digits) first
           ∙ placed_both place (dot ∷ []) digits page (omega arith);
     }
