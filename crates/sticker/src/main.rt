@@ -1,4 +1,6 @@
 // Checks sticker texts: one a line from standard input, an answer a line to standard output.
+#![tactic(auto)]
+
 ghost use Rattle.std.specs.Prelude.{ℕ, List, [], OnOk};
 ghost use Rattle.sticker.specs.Lines.{Took, Counts, verdict_on, underway};
 

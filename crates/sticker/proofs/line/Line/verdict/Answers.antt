@@ -8,4 +8,4 @@ returns-then-self c bytes took = sym (verdict_long bytes (sym took.long ∙ c.if
 pub returns : goal.returns
 returns c bytes took =
     c.judge.ensures
-    ∙ verdict_short bytes c.as-slice.result.now (c.as-slice.ensures.value ∙ took.kept) (sym took.long ∙ c.if-self.false)
+    ∙ verdict_short bytes c.as_slice.result.now (c.as_slice.ensures.value ∙ took.kept) (sym took.long ∙ c.if-self.false)
