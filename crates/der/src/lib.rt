@@ -1,4 +1,6 @@
 // DER: the bytes of an identifier by X.690, clause 8.19, with one byte for the length.
+#![tactic(auto)]
+
 mod base128;
 mod header;
 pub mod laws;

@@ -86,12 +86,12 @@ fn written(rt: HostRuntime) -> Result<(), Fail> {
     };
     let mut page = [b'-'; 20];
     assert_eq!(rt; write(&identifier, &mut page, 3).ok(), Some(19));
-    assert!(rt; page.as_slice() == b"---2.999.4294967295-");
+    assert!(rt; page.as_slice() == b"---2.999.4294967295-".as_slice());
     assert!(rt; write(&identifier, &mut page, 5).is_err());
     assert!(rt; write(&identifier, &mut page, 21).is_err());
     assert!(rt; write(&identifier, &mut page, usize::MAX).is_err());
-    assert!(rt; page.as_slice() == b"---2.999.4294967295-");
+    assert!(rt; page.as_slice() == b"---2.999.4294967295-".as_slice());
     assert_eq!(rt; write(&identifier, &mut page, 4).ok(), Some(20));
-    assert!(rt; page.as_slice() == b"---22.999.4294967295");
+    assert!(rt; page.as_slice() == b"---22.999.4294967295".as_slice());
     Ok(())
 }

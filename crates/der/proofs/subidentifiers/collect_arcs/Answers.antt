@@ -11,31 +11,31 @@ use Rattle.der.proofs.subidentifiers.collect_arcs.Goals.{After-add-2, After-add-
 
 -- where the first subidentifier ends, and its value
 first_end : (c : After-add-2)
-    → c.args.start + c.read-base128-first.result.length ≡ c.args.start + length (first_series (drop c.args.start c.args.bytes.now))
+    → c.args.start + c.read_base128-first.result.length ≡ c.args.start + length (first_series (drop c.args.start c.args.bytes.now))
 first_end c =
-    ap (λ n. c.args.start + n) (c.read-base128-first.ensures.len ∙ ap (λ l. length (first_series l)) (take_rest c.args.bytes.now c.args.start))
+    ap (λ n. c.args.start + n) (c.read_base128-first.ensures.len ∙ ap (λ l. length (first_series l)) (take_rest c.args.bytes.now c.args.start))
 
 first_value : (c : After-add-2)
-    → c.read-base128-first.result.value ≡ min (value_of (first_series (drop c.args.start c.args.bytes.now))) cap
+    → c.read_base128-first.result.value ≡ min (value_of (first_series (drop c.args.start c.args.bytes.now))) cap
 first_value c =
-    c.read-base128-first.ensures.value
+    c.read_base128-first.ensures.value
     ∙ ap (λ l. min (value_of (first_series l)) cap) (take_rest c.args.bytes.now c.args.start)
 
 -- the same of a later one
 later_end : (c : After-add-in-loop-at)
-    → c.loop-at.at + c.read-base128-next.result.length ≡ c.loop-at.at + length (first_series (drop c.loop-at.at c.args.bytes.now))
+    → c.loop-at.at + c.read_base128-next.result.length ≡ c.loop-at.at + length (first_series (drop c.loop-at.at c.args.bytes.now))
 later_end c =
-    ap (λ n. c.loop-at.at + n) (c.read-base128-next.ensures.len ∙ ap (λ l. length (first_series l)) (take_rest c.args.bytes.now c.loop-at.at))
+    ap (λ n. c.loop-at.at + n) (c.read_base128-next.ensures.len ∙ ap (λ l. length (first_series l)) (take_rest c.args.bytes.now c.loop-at.at))
 
 later_value : (c : After-add-in-loop-at)
-    → c.read-base128-next.result.value ≡ min (value_of (first_series (drop c.loop-at.at c.args.bytes.now))) cap
+    → c.read_base128-next.result.value ≡ min (value_of (first_series (drop c.loop-at.at c.args.bytes.now))) cap
 later_value c =
-    c.read-base128-next.ensures.value
+    c.read_base128-next.ensures.value
     ∙ ap (λ l. min (value_of (first_series l)) cap) (take_rest c.args.bytes.now c.loop-at.at)
 
-pub overflow-add-at : goal.overflow-add-at
-overflow-add-at c =
-    let within = end_within c.args.bytes.now c.args.start c.requires _ (first_end (goal.at.overflow-add-at c).After-add-2) in
+pub overflow_add-at : goal.overflow_add-at
+overflow_add-at c =
+    let within = end_within c.args.bytes.now c.args.start c.requires _ (first_end (goal.at.overflow_add-at c).After-add-2) in
     omega arith
 
 pub loop-at-init : goal.loop-at-init
@@ -45,15 +45,15 @@ loop-at-init c =
     let ends = first_end (goal.at.loop-at-init c).After-add-2 in
     let n = value_of (first_series (drop start bytes)) in
     let capped = first_value (goal.at.loop-at-init c).After-add-2 in
-    let value = c.read-base128-first.result.value in
-    let root = c.root-in-root.result in
-    let one = c.add.ensures [] (arc_number start (root_in n)) (root_numeral start n value capped c.arc-numeral.result root c.root-in-root.ensures c.arc-numeral.ensures) c.new-collector.ensures in
-    let two = c.add-2.ensures (arc_number start (root_in n) ∷ []) (arc_number start (second_in n)) (second_numeral start n value capped c.arc-numeral-2.result root c.root-in-root.ensures c.arc-numeral-2.ensures) one in
+    let value = c.read_base128-first.result.value in
+    let root = c.root_in-root.result in
+    let one = c.add.ensures [] (arc_number start (root_in n)) (root_numeral start n value capped c.arc_numeral.result root c.root_in-root.ensures c.arc_numeral.ensures) c.new-collector.ensures in
+    let two = c.add-2.ensures (arc_number start (root_in n) ∷ []) (arc_number start (second_in n)) (second_numeral start n value capped c.arc_numeral-2.result root c.root_in-root.ensures c.arc_numeral-2.ensures) one in
     (end_within bytes start c.requires _ ends, (_, two, arcs_first bytes start c.requires _ ends))
 
-pub overflow-add-at-in-loop-at : goal.overflow-add-at-in-loop-at
-overflow-add-at-in-loop-at c =
-    let within = end_within c.args.bytes.now c.loop-at.at c.loop-at-test.true _ (later_end (goal.at.overflow-add-at-in-loop-at c).After-add-in-loop-at) in
+pub overflow_add-at-in-loop-at : goal.overflow_add-at-in-loop-at
+overflow_add-at-in-loop-at c =
+    let within = end_within c.args.bytes.now c.loop-at.at c.loop-at-test.true _ (later_end (goal.at.overflow_add-at-in-loop-at c).After-add-in-loop-at) in
     omega arith
 
 pub loop-at-smaller : goal.loop-at-smaller
@@ -70,7 +70,7 @@ loop-at-preserved c =
     let done = c.loop-at.invariant.1.0 in
     let ends = later_end (goal.at.loop-at-preserved c).After-add-in-loop-at in
     let n = value_of (first_series (drop at bytes)) in
-    let numeral = later_numeral at n c.read-base128-next.result.value (later_value (goal.at.loop-at-preserved c).After-add-in-loop-at) c.arc-numeral-in-loop-at.result c.arc-numeral-in-loop-at.ensures in
+    let numeral = later_numeral at n c.read_base128-next.result.value (later_value (goal.at.loop-at-preserved c).After-add-in-loop-at) c.arc_numeral-in-loop-at.result c.arc_numeral-in-loop-at.ensures in
     let more = c.add-in-loop-at.ensures done (arc_number at n) numeral c.loop-at.invariant.1.1 in
     (end_within bytes at c.loop-at-test.true _ ends, (_, more, arcs_next bytes at c.loop-at-test.true _ ends done ∙ c.loop-at.invariant.1.2))
 

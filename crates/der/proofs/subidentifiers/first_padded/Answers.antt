@@ -19,7 +19,7 @@ loop-i-preserved c =
       | else-begins-via-then-begins+else-bytes-i w ↦ and_right c.loop-i.begins _ (ne_eqb (get_or bytes i 0) more w.if-bytes-i.false)
       | else-begins-via-else-begins w ↦ and_left c.loop-i.begins _ w.if-begins.false
     ] in
-    ap (λ begins. padded_from (i + 1) begins (drop (i + 1) bytes)) c.is-last-begins.ensures
+    ap (λ begins. padded_from (i + 1) begins (drop (i + 1) bytes)) c.is_last-begins.ensures
     ∙ sym (padded_more bytes i c.loop-i.begins (omega arith) passed) ∙ c.loop-i.invariant
 
 pub returns : goal.returns

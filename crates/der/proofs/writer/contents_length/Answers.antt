@@ -7,17 +7,17 @@ use Rattle.der.proofs.writer.contents_length.Goals as goal
 pub loop-i-init : goal.loop-i-init
 loop-i-init c = omega (arith, ap length (contents_written c.args.arcs.now))
 
-pub overflow-add-count : goal.overflow-add-count
-overflow-add-count c =
+pub overflow_add-count : goal.overflow_add-count
+overflow_add-count c =
     let arcs = c.args.arcs.now in
-    let one = c.base128-length-count.ensures ∙ ap (λ n. length (base128 n)) c.subidentifier.ensures in
+    let one = c.base128_length-count.ensures ∙ ap (λ n. length (base128 n)) c.subidentifier.ensures in
     let many = length_subs arcs (some_arcs arcs c.requires) in
     omega (arith, c.loop-i.invariant, length_more (subidentifiers_of arcs) c.loop-i.i (omega arith) (omega arith), contents_most arcs c.requires)
 
 pub loop-i-preserved : goal.loop-i-preserved
 loop-i-preserved c =
     let arcs = c.args.arcs.now in
-    let one = c.base128-length-count.ensures ∙ ap (λ n. length (base128 n)) c.subidentifier.ensures in
+    let one = c.base128_length-count.ensures ∙ ap (λ n. length (base128 n)) c.subidentifier.ensures in
     let many = length_subs arcs (some_arcs arcs c.requires) in
     omega (arith, c.loop-i.invariant, length_more (subidentifiers_of arcs) c.loop-i.i (omega arith) (omega arith))
 

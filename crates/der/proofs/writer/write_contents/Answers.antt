@@ -11,8 +11,8 @@ loop-i-init c =
     let all = contents_written c.args.arcs.now in
     (ap (λ l. c.args.place + length l) (sym all), ap (λ l. placed c.args.place l c.args.page.now) (sym all))
 
-pub write-subidentifier-end-requires : goal.write-subidentifier-end-requires
-write-subidentifier-end-requires c =
+pub write_subidentifier-end-requires : goal.write_subidentifier-end-requires
+write_subidentifier-end-requires c =
     let arcs = c.args.arcs.now in
     let one = ap (λ n. length (base128 n)) c.subidentifier.ensures in
     let many = length_subs arcs (some_arcs arcs c.requires.rule) in
@@ -35,7 +35,7 @@ loop-i-preserved c =
     let both =
     placed_both end front back page room
     ∙ ap (λ l. placed end l page) (ap (λ l. l ++ back) is_front ∙ sym (written_more subs i (omega arith) (omega arith))) in
-    (omega (arith, c.loop-i.invariant.0, c.write-subidentifier-end.ensures.value), (λ k. placed (c.write-subidentifier-end.ensures.value k) back (c.write-subidentifier-end.ensures.after k)) ∙ both ∙ c.loop-i.invariant.1)
+    (omega (arith, c.loop-i.invariant.0, c.write_subidentifier-end.ensures.value), (λ k. placed (c.write_subidentifier-end.ensures.value k) back (c.write_subidentifier-end.ensures.after k)) ∙ both ∙ c.loop-i.invariant.1)
 
 pub returns : goal.returns
 returns c =

@@ -10,14 +10,14 @@ use Rattle.der.proofs.writer.write_encoding.Goals as goal
 pub bounds-page-place : goal.bounds-page-place
 bounds-page-place c = omega (arith, c.requires.room, length_bytes c.args.arcs.now)
 
-pub overflow-cast-page : goal.overflow-cast-page
-overflow-cast-page c = omega (arith, c.requires.told, contents_most c.args.arcs.now c.requires.rule)
+pub overflow_cast-page : goal.overflow_cast-page
+overflow_cast-page c = omega (arith, c.requires.told, contents_most c.args.arcs.now c.requires.rule)
 
 pub bounds-page-place-2 : goal.bounds-page-place-2
 bounds-page-place-2 c = omega (arith, c.requires.room, length_bytes c.args.arcs.now, length-set c.args.page.now c.args.place tag)
 
-pub write-contents-requires : goal.write-contents-requires
-write-contents-requires c =
+pub write_contents-requires : goal.write_contents-requires
+write_contents-requires c =
     let page = c.args.page.now in
     let one = length-set page c.args.place tag in
     let two = length-set (set page c.args.place tag) (c.args.place + 1) c.args.count in
@@ -38,9 +38,9 @@ returns c =
     ∙ placed_both place (tag ∷ []) (count ∷ []) page (omega arith)
     ∙ ap (λ n. placed place (tag ∷ (n ∷ [])) page) c.requires.told in
     record {
-      value = omega (arith, c.write-contents.ensures.value);
+      value = omega (arith, c.write_contents.ensures.value);
       after =
-          c.write-contents.ensures.after ∙ ap (placed (place + 2) contents) header
+          c.write_contents.ensures.after ∙ ap (placed (place + 2) contents) header
           ∙ placed_both place (tag ∷ (length contents ∷ [])) contents page (omega arith)
           ∙ ap (λ l. placed place l page) (sym (bytes_are arcs));
     }
