@@ -1,4 +1,6 @@
 // Object identifiers and both of their notations, under one name each.
+#![tactic(auto)]
+
 pub mod laws;
 
 pub use der::{DER_LIMIT, read as read_der, split as split_der, write as write_der};

@@ -31,7 +31,7 @@ pub fn read_lines<R: Read, T: LineTaker>(
     input: &mut R,
     taker: &mut T,
 ) -> anyhow::Result<()>
-    ensures { OnOk result ((lines : List (List ℕ)) → took taker.old lines → (more : List (List ℕ)) × took taker.new (lines ++ more)) }
+    ensures { OnOk result ((lines : List (List ℕ)) → T.took taker.old lines → (more : List (List ℕ)) × T.took taker.new (lines ++ more)) }
 {
     let mut line = Line::new(heap)?;
     let mut chunk = vec![in heap; 0; CHUNK]?;
@@ -46,7 +46,7 @@ pub fn read_lines<R: Read, T: LineTaker>(
 
 // Takes what is under way where the input has ended, if that is anything.
 fn take_last<T: LineTaker>(line: &Line, taker: &mut T) -> io::Result<()>
-    ensures { OnOk result ((lines : List (List ℕ)) (bytes : List ℕ) → took taker.old lines → Took line.now bytes → took taker.new (lines ++ last_line bytes)) }
+    ensures { OnOk result ((lines : List (List ℕ)) (bytes : List ℕ) → T.took taker.old lines → Took line.now bytes → T.took taker.new (lines ++ last_line bytes)) }
 {
     if line.is_empty() {
         return Ok(());
@@ -61,7 +61,7 @@ fn take_chunk<R: Read, T: LineTaker>(
     line: &mut Line,
     taker: &mut T,
 ) -> io::Result<bool>
-    ensures { OnOk result ((lines : List (List ℕ)) (bytes : List ℕ) → took taker.old lines → Took line.old bytes → (more : List (List ℕ)) × (next : List ℕ) × took taker.new (lines ++ more) × Took line.new next) }
+    ensures { OnOk result ((lines : List (List ℕ)) (bytes : List ℕ) → T.took taker.old lines → Took line.old bytes → (more : List (List ℕ)) × (next : List ℕ) × T.took taker.new (lines ++ more) × Took line.new next) }
 {
     let count = input.read(chunk)?;
     take_bytes(&chunk[0..count], line, taker)?;
@@ -71,7 +71,7 @@ fn take_chunk<R: Read, T: LineTaker>(
 
 // Takes more input: each line feed ends a line, and every other byte belongs to one.
 fn take_bytes<T: LineTaker>(input: &[u8], line: &mut Line, taker: &mut T) -> io::Result<()>
-    ensures { OnOk result ((lines : List (List ℕ)) (bytes : List ℕ) → took taker.old lines → Took line.old bytes → took taker.new (lines ++ ended bytes input.now) × Took line.new (underway bytes input.now)) }
+    ensures { OnOk result ((lines : List (List ℕ)) (bytes : List ℕ) → T.took taker.old lines → Took line.old bytes → T.took taker.new (lines ++ ended bytes input.now) × Took line.new (underway bytes input.now)) }
 {
     for byte in input {
         if *byte == b'\n' {

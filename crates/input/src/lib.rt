@@ -1,5 +1,7 @@
 // What the programs read: lines of input in memory that does not grow with them, their fields, and
 // pairs of hexadecimal digits.
+#![tactic(auto)]
+
 pub mod feed;
 pub mod fields;
 pub mod hex;

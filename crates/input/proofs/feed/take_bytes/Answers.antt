@@ -3,7 +3,7 @@ use Rattle.std.proofs.lemmas.List.{append-nil}
 use Rattle.input.specs.Lines.{Took, ended}
 use Rattle.input.proofs.Taking.{underway_feed, ended_feed, underway_byte, ended_byte, underway_end, ended_end}
 use Rattle.input.proofs.feed.take_bytes.Goals as goal
-use Rattle.input.proofs.feed.take_bytes.Goals.{then-byte-eq10+in-ok-take-line, else-byte-eq10}
+use Rattle.input.proofs.feed.take_bytes.Goals.{then-byte-eq10+in_ok-take_line, else-byte-eq10}
 
 pub loop-byte-preserved : goal.loop-byte-preserved
 loop-byte-preserved g c lines bytes took under =
@@ -12,10 +12,10 @@ loop-byte-preserved g c lines bytes took under =
     let i = c.loop-byte.byte-index in
     let rest = drop (i + 1) input in
     elim c.if-byte-eq10.branch [
-      | then-byte-eq10+in-ok-take-line w ↦ (
+      | then-byte-eq10+in_ok-take_line w ↦ (
         found.0 ++ found.1 ∷ [],
         [],
-        subst (λ taker. g.T.LineTaker.took taker (found.0 ++ found.1 ∷ [])) (sym w.taker-is) (w.in-ok-take-line.ensures found.0 found.1 found.2 found.3),
+        subst (λ taker. g.T.LineTaker.took taker (found.0 ++ found.1 ∷ [])) (sym w.taker-is) (w.in_ok-take_line.ensures found.0 found.1 found.2 found.3),
         subst (λ line. Took line []) (sym w.line-is) w.clear.ensures,
         append_assoc found.0 (found.1 ∷ []) (ended [] rest)
             ∙ ap (λ l. found.0 ++ l) (sym (ended_feed found.1 input i (omega arith) w.if-byte-eq10.true))

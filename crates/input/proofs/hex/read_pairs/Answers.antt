@@ -11,8 +11,8 @@ returns-then-count-page c =
     let short = lt-leb _ _ (omega (arith, length_pairs digits)) in
     record { value = sym (cond-false (pairs_fit digits page) _ _ short); after = sym (cond-false (pairs_fit digits page) _ _ short) }
 
-pub write-pairs-requires : goal.write-pairs-requires
-write-pairs-requires c = omega (arith, length_pairs c.args.digits.now)
+pub write_pairs-requires : goal.write_pairs-requires
+write_pairs-requires c = omega (arith, length_pairs c.args.digits.now)
 
 pub returns : goal.returns
 returns c =
@@ -21,5 +21,5 @@ returns c =
     let room = le-leb _ _ (omega (arith, length_pairs digits)) in
     record {
       value = ap Some (sym (length_pairs digits)) ∙ sym (cond-true (pairs_fit digits page) _ _ room);
-      after = c.write-pairs.ensures ∙ sym (cond-true (pairs_fit digits page) _ _ room);
+      after = c.write_pairs.ensures ∙ sym (cond-true (pairs_fit digits page) _ _ room);
     }

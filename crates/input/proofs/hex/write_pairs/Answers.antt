@@ -12,7 +12,7 @@ loop-i-preserved c =
     let digits = c.args.digits.now in
     let i = c.loop-i.i in
     let long = length_pairs digits in
-    let here = (λ k. 16 * c.value-of.ensures.value k + c.value-of-in-loop-i.ensures.value k) ∙ sym (pair_at digits i (omega arith)) in
+    let here = (λ k. 16 * c.value_of.ensures.value k + c.value_of-in-loop-i.ensures.value k) ∙ sym (pair_at digits i (omega arith)) in
     front_more (pairs_in digits) c.args.page.now c.loop-i.page i _ (omega arith) (omega arith) c.loop-i.invariant here
 
 pub returns : goal.returns
