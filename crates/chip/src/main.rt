@@ -1,5 +1,7 @@
 // Checks stickers and chips: a text or a chip's content a line from standard input, an answer a line to standard
 // output.
+#![tactic(auto)]
+
 mod answers;
 mod judging;
 mod stickers;

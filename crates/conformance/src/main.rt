@@ -1,4 +1,6 @@
 // Compares our readers and writers with the standard's examples and with another implementation's encodings.
+#![tactic(auto)]
+
 mod comparing;
 mod comparison;
 mod difference;

@@ -21,15 +21,15 @@ pub enum Mark {
 pub fn mark_of(word: &[u8]) -> Option<Mark>
     ensures { result ≡ mark_of word.now }
 {
-    if word == b"equal" {
+    if word == b"equal".as_slice() {
         Some(Mark::Equal)
-    } else if word == b"large" {
+    } else if word == b"large".as_slice() {
         Some(Mark::Large)
-    } else if word == b"many" {
+    } else if word == b"many".as_slice() {
         Some(Mark::Many)
-    } else if word == b"large-long" {
+    } else if word == b"large-long".as_slice() {
         Some(Mark::LargeLong)
-    } else if word == b"many-long" {
+    } else if word == b"many-long".as_slice() {
         Some(Mark::ManyLong)
     } else {
         None

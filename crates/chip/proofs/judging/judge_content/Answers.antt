@@ -3,6 +3,6 @@ use Rattle.std.specs.Result.{result_unwrap_or}
 use Rattle.der.proofs.Theorems.{taken_within}
 use Rattle.chip.proofs.judging.judge_content.Goals as goal
 
-pub overflow-sub-result : goal.overflow-sub-result
-overflow-sub-result c =
+pub overflow_sub-result : goal.overflow_sub-result
+overflow_sub-result c =
     omega (arith, ap (λ r. result_unwrap_or r 0) c.in-Ok.ensures.value, taken_within c.args.content.now)

@@ -10,5 +10,5 @@ whatever (Err y) P h = tt
 
 pub returns : goal.returns
 returns g c =
-    whatever c.write-answer.result _ (λ _ lines bytes tallied took.
+    whatever c.write_answer.result _ (λ _ lines bytes tallied took.
     tallied_more c.args.self.now.tally _ lines bytes tallied (subst (λ answer. Counts c.args.self.now.tally answer c.count.new.self) (c.judge-verdict.ensures bytes took) c.count.ensures))

@@ -1,19 +1,19 @@
 use Rattle.std.proofs.Common.{sym, refl, ap, ◌∙◌}
 use Rattle.conformance.proofs.Compared.{compared_kept, compared_differs, compared_agrees}
-use Rattle.conformance.proofs.Equal.{some_found, none_found}
+use Rattle.conformance.proofs.Options.{some_found, none_found}
 use Rattle.conformance.proofs.taking.ComparisonLineTaker.take_line.Goals as goal
 
-pub returns-then-is-some : goal.returns-then-is-some
-returns-then-is-some c lines bytes known took =
-    let found = some_found c.args.self.now.first (sym c.if-is-some.ensures) in
+pub returns-then-is_some : goal.returns-then-is_some
+returns-then-is_some c lines bytes known took =
+    let found = some_found c.args.self.now.first (sym c.if-is_some.ensures) in
     compared_kept c.args.self.now _ lines bytes known found.0 found.1 refl refl
 
 pub returns-in-Some : goal.returns-in-Some
 returns-in-Some c lines bytes known took =
-    let none = none_found c.args.self.now.first (sym c.if-is-some.ensures) in
+    let none = none_found c.args.self.now.first (sym c.if-is_some.ensures) in
     compared_differs c.args.self.now _ lines bytes known none c.in-Some.difference (c.in-Some.ensures bytes took) refl refl
 
 pub returns-in-None : goal.returns-in-None
 returns-in-None c lines bytes known took =
-    let none = none_found c.args.self.now.first (sym c.if-is-some.ensures) in
-    compared_agrees c.args.self.now _ lines bytes known none (c.in-None.ensures bytes took) none c.saturating-add-self.ensures
+    let none = none_found c.args.self.now.first (sym c.if-is_some.ensures) in
+    compared_agrees c.args.self.now _ lines bytes known none (c.in-None.ensures bytes took) none c.saturating_add-self.ensures
