@@ -1,20 +1,19 @@
 -- Bytes that are read as an identifier are its encoding, and what follows.
-use Rattle.std.proofs.Common.{◌≡◌, ℕ, suc, ◌+◌, ◌-◌, ◌<◌, ◌≤◌, Bool, true, false, cond, not, eqb, leb, List, [], ◌∷◌, ◌++◌, map, length, get_or, take, drop, Some, None, Ok, Option, sym, refl, ap, ◌∙◌, ⊎_elim, arith}
+use Rattle.std.proofs.Common.{◌≡◌, ℕ, suc, ◌+◌, ◌-◌, ◌<◌, ◌≤◌, Bool, true, false, cond, eqb, leb, List, [], ◌∷◌, ◌++◌, map, length, get_or, take, drop, Some, None, Ok, sym, refl, ap, ◌∙◌, ⊎_elim, arith}
 use Rattle.std.specs.List.{flat_map, AllByRecursion as All}
 use Rattle.std.proofs.lemmas.List.{take-append-drop, length-take-le, length-take, get_or-take, get_or-drop, get_or_past}
 use Rattle.std.proofs.lemmas.Bool.{and_parts, eqb-true, leb-true, ltb-true, ltb-false, both_ways, cases_lt}
-use Rattle.oid.specs.Numbers.{Number, values, first_at}
+use Rattle.oid.specs.Numbers.{values, first_at}
 use Rattle.oid.specs.Refusals.{fault_at}
-use Rattle.oid.specs.Tree.{is_identifier}
 use Rattle.oid.specs.declared.refusal.Fault.{Fault}
 use Rattle.oid.specs.declared.refusal.Refusal.TheVariants.{Padded}
 use Rattle.oid.proofs.Numbers.{none_mapped, yes_cond, asked, accepted, first_at_none}
-use Rattle.der.specs.Base128.{more, is_last, value_of, base128}
+use Rattle.der.specs.Base128.{more, is_last}
 use Rattle.der.specs.Header.{tag, most_contents, header_length, length_in, taken_in, contents_in, length_holds, bad_header}
 use Rattle.der.specs.Laws.{Bytes, Encodes}
 use Rattle.der.specs.Reading.{unfinished, padded_subidentifiers, read_subidentifiers, read_der}
 use Rattle.der.specs.Subidentifiers.{Series, longer, series_from, number_in, subidentifiers_from, arcs_in, arc_numbers}
-use Rattle.der.specs.Writing.{subidentifiers_of, contents_of, der_bytes}
+use Rattle.der.specs.Writing.{subidentifiers_of, contents_of}
 use Rattle.der.proofs.Accepting.{Ends}
 use Rattle.der.proofs.Contents.{written, contents_written, bytes_are}
 use Rattle.der.proofs.Digits.{SeriesOfOne, base128_value}

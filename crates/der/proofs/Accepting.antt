@@ -1,5 +1,5 @@
 -- The encoding of an identifier, whatever follows it, is read as that identifier.
-use Rattle.std.proofs.Common.{◌≡◌, ℕ, ◌+◌, ◌-◌, ◌/◌, ◌%◌, ◌<◌, ◌≤◌, true, false, eqb, List, [], ◌∷◌, ◌++◌, length, get_or, take, drop, None, Ok, sym, refl, ap, ◌∙◌, arith}
+use Rattle.std.proofs.Common.{◌≡◌, ℕ, ◌+◌, ◌-◌, ◌/◌, ◌%◌, ◌<◌, ◌≤◌, true, eqb, List, [], ◌∷◌, ◌++◌, length, get_or, take, drop, None, Ok, sym, refl, ap, ◌∙◌, arith}
 use Rattle.std.proofs.lemmas.List.{length-map, length-append, append-nil, get_or-append_right, get_or_push, drop_at, take_at}
 use Rattle.std.proofs.lemmas.Bool.{cond-false, lt-ltb}
 use Rattle.oid.specs.Numbers.{Number, values, first_at}
@@ -7,15 +7,15 @@ use Rattle.oid.specs.Tree.{all_arcs, starts_well, is_identifier}
 use Rattle.oid.proofs.Numbers.{counted, read_all, none_too_large}
 use Rattle.oid.proofs.Tree.{Keeps, keeps}
 use Rattle.der.specs.Base128.{more, is_last, base128}
-use Rattle.der.specs.Header.{header_length, taken_in, contents_in, bad_header, length_holds}
+use Rattle.der.specs.Header.{header_length, taken_in, contents_in, bad_header}
 use Rattle.der.specs.Reading.{read_subidentifiers, read_der}
-use Rattle.der.specs.Subidentifiers.{number_in, subidentifiers_from, joined_arcs, series_from, arcs_in, arc_numbers}
+use Rattle.der.specs.Subidentifiers.{number_in, subidentifiers_from, series_from, arcs_in, arc_numbers}
 use Rattle.der.specs.Writing.{subidentifiers_of, contents_of, der_bytes}
 use Rattle.der.proofs.Contents.{written, contents_written, contents_most, bytes_are, length_bytes, length_subs}
 use Rattle.der.proofs.Digits.{higher, base128_is, length-base128, first_base128, value_base128, base128_unpadded}
 use Rattle.der.proofs.Headers.{length_fits, header_holds}
 use Rattle.der.proofs.Joining.{root_joined, second_joined}
-use Rattle.der.proofs.Reading.{arcs_plain, values_arcs, length_arcs, read_arcs, read_finished}
+use Rattle.der.proofs.Reading.{arcs_plain, values_arcs, read_arcs, read_finished}
 use Rattle.der.proofs.Series.{series, subs_next}
 
 -- the last byte of a list can be the last of a subidentifier

@@ -1,5 +1,5 @@
 -- The first two arcs joined in one subidentifier, and taken apart again.
-use Rattle.std.proofs.Common.{◌≡◌, ℕ, ◌+◌, ◌-◌, ◌*◌, ◌^◌, ◌<◌, ◌≤◌, min, true, false, not, eqb, ltb, leb, sym, refl, ap, ◌∙◌, ⊎_elim, arith}
+use Rattle.std.proofs.Common.{◌≡◌, ℕ, ◌-◌, ◌*◌, ◌<◌, ◌≤◌, min, true, false, not, eqb, ltb, leb, sym, refl, ap, ◌∙◌, ⊎_elim, arith}
 use Rattle.std.proofs.lemmas.Bool.{cond_both, cases_lt, ltb-true, ltb-false, lt-ltb, le-ltb, le-leb, lt-leb, leb-true, eqb-true, or_cases, and_parts}
 use Rattle.oid.specs.Arcs.{arc_limit, is_arc, arc_of}
 use Rattle.oid.specs.Collected.{numeral_of}

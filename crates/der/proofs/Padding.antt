@@ -2,7 +2,7 @@
 use Rattle.std.proofs.Common.{◌≡◌, ℕ, ◌+◌, ◌<◌, ◌≤◌, Bool, true, false, cond, ◌&&◌, eqb, List, [], ◌∷◌, map, length, get_or, drop, Some, None, Option, sym, refl, ap, ◌∙◌}
 use Rattle.std.proofs.lemmas.List.{at_drop_more, at_drop_all}
 use Rattle.std.proofs.lemmas.Bool.{cond-true, cond-false}
-use Rattle.oid.specs.Numbers.{Number, first_at}
+use Rattle.oid.specs.Numbers.{first_at}
 use Rattle.der.specs.Base128.{more, is_last}
 use Rattle.der.specs.Subidentifiers.{Series, longer, series_from, number_in, subidentifiers_from}
 

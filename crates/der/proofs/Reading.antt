@@ -1,9 +1,8 @@
 -- What each outcome of the questions makes of the reading.
-use Rattle.std.proofs.Common.{◌≡◌, ℕ, ◌+◌, ◌-◌, ◌≤◌, Bool, true, false, cond, not, ltb, List, [], ◌∷◌, map, length, get_or, take, drop, Some, None, Ok, Err, sym, refl, ap, ◌∙◌, arith}
+use Rattle.std.proofs.Common.{◌≡◌, ℕ, ◌+◌, ◌-◌, ◌≤◌, true, false, cond, not, ltb, List, [], ◌∷◌, map, length, get_or, take, drop, Some, None, Ok, Err, sym, refl, ap, ◌∙◌, arith}
 use Rattle.std.specs.Option.{option_map}
 use Rattle.std.proofs.lemmas.List.{length-map, length-take-le, length-drop, drop-take, get_or-drop}
 use Rattle.std.proofs.lemmas.Bool.{cond-false}
-use Rattle.oid.specs.Arcs.{arc_limit}
 use Rattle.oid.specs.Numbers.{Number, values, offsets, too_large, first_at, read_numbers}
 use Rattle.oid.specs.Refusals.{fault_at, ask}
 use Rattle.oid.specs.Tree.{last_root}
@@ -12,7 +11,7 @@ use Rattle.oid.specs.declared.refusal.Refusal.TheVariants.{LeadingZero, ArcTooLa
 use Rattle.der.specs.Base128.{is_last}
 use Rattle.der.specs.Header.{header_length, taken_in, contents_in, bad_header}
 use Rattle.der.specs.Reading.{first_large, wrong_arcs, read_subidentifiers, read_der}
-use Rattle.der.specs.Subidentifiers.{subidentifiers_from, joined_arcs, root_in, second_in, arcs_in, later_arc, arc_numbers}
+use Rattle.der.specs.Subidentifiers.{subidentifiers_from, root_in, second_in, arcs_in, later_arc, arc_numbers}
 use Rattle.der.proofs.Joining.{root_arc, second_large, starts_apart}
 
 -- what stands at the front, as the reader takes it, and the contents in it

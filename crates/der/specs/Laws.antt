@@ -1,5 +1,5 @@
 -- Laws of the encoding, over the reading and the bytes that the contracts cite.
-use Rattle.std.specs.Prelude.{◌≡◌, ℕ, ◌+◌, ◌-◌, ◌<◌, ◌≤◌, true, List, ◌++◌, length, drop, Ok, Result, slice_index}
+use Rattle.std.specs.Prelude.{◌≡◌, ℕ, ◌<◌, ◌≤◌, true, List, ◌++◌, length, drop, Ok, Result, slice_index}
 use Rattle.std.specs.List.{between}
 use Rattle.oid.specs.Tree.{is_identifier}
 use Rattle.oid.specs.declared.refusal.Fault.{Fault}

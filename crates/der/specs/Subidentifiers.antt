@@ -1,5 +1,5 @@
 -- Contents split into subidentifiers, and the arcs that these stand for (X.690, 8.19.2 to 8.19.5).
-use Rattle.std.specs.Prelude.{ℕ, ◌+◌, ◌-◌, ◌*◌, Bool, false, cond, List, [], ◌∷◌, map, ◌==◌, nat_lt, slice_index}
+use Rattle.std.specs.Prelude.{ℕ, ◌+◌, ◌-◌, ◌*◌, false, cond, List, [], ◌∷◌, map, ◌==◌, nat_lt, slice_index}
 use Rattle.oid.specs.Numbers.{Number}
 use Rattle.der.specs.Base128.{more, is_last, value_of}
 

@@ -1,10 +1,8 @@
 // Equality of identifiers: they are equal exactly when their arcs are.
 ghost use Rattle.std.specs.Prelude.{◌≡◌, ◌==◌, Decides};
-ghost use Rattle.std.specs.Cmp.Lexicographic.{pointwise};
+ghost use Rattle.std.specs.Cmp.{on_equiv, partial_equiv_from_equiv};
+ghost use Rattle.std.specs.Cmp.Lexicographic.{nat_list_eq_equiv, pointwise};
 ghost use Rattle.std.specs.Ordering.{on};
-ghost use Rattle.std.specs.Cmp.{partial_equiv_from_equiv};
-ghost use Rattle.std.specs.Cmp.Rules.{comparing};
-ghost use Rattle.std.proofs.Common.{rules};
 ghost use Rattle.oid.specs.Meaning.{arcs_of};
 
 use super::Identifier;
@@ -12,7 +10,7 @@ use super::Identifier;
 impl PartialEq for Identifier {
     ghost eq = { on arcs_of (pointwise ◌==◌) };
 
-    ghost laws = { partial_equiv_from_equiv (Prim.search (comparing, rules)) };
+    ghost laws = { partial_equiv_from_equiv (on_equiv arcs_of nat_list_eq_equiv) };
 
     fn eq(&self, other: &Identifier) -> bool
         ensures value { result ≡ on arcs_of (pointwise ◌==◌) self.now other.now }
@@ -23,5 +21,5 @@ impl PartialEq for Identifier {
 }
 
 impl Eq for Identifier {
-    ghost laws = { Prim.search (comparing, rules) };
+    ghost laws = { on_equiv arcs_of nat_list_eq_equiv };
 }

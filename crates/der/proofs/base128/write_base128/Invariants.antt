@@ -1,4 +1,4 @@
-use Rattle.std.proofs.Common.{◌≡◌, ◌+◌, ◌≤◌, ◌++◌, length, drop}
+use Rattle.std.proofs.Common.{◌≡◌, ◌≤◌, ◌++◌, length, drop}
 use Rattle.der.specs.Base128.{base128}
 use Rattle.der.proofs.Digits.{higher}
 use Rattle.der.proofs.base128.write_base128.Given as goal

@@ -1,8 +1,8 @@
-use Rattle.std.proofs.Common.{Ok, Err, sym, refl, ap, ◌∙◌, arith}
+use Rattle.std.proofs.Common.{Ok, Err, sym, refl, ap, ◌∙◌}
 use Rattle.std.proofs.lemmas.Result.{err_from_is_err_and}
 use Rattle.oid.specs.Meaning.{arcs_of}
 use Rattle.oid.specs.Refusals.{filled}
-use Rattle.der.proofs.Reading.{length_front, read_header, reads_unfinished, reads_padded, reads_arcs}
+use Rattle.der.proofs.Reading.{read_header, reads_unfinished, reads_padded, reads_arcs}
 use Rattle.der.proofs.Theorems.{tells, exactly}
 use Rattle.der.proofs.reader.read.Goals as goal
 

@@ -1,7 +1,6 @@
-use Rattle.std.proofs.Common.{◌≡◌, ◌≤◌, length, drop, ap, ◌∙◌, arith, rules}
+use Rattle.std.proofs.Common.{◌≤◌, length, drop, ap, ◌∙◌, arith, rules}
 use Rattle.std.specs.Result.{result_unwrap_or}
 use Rattle.std.proofs.lemmas.List.{take_rest}
-use Rattle.der.specs.Reading.{taken}
 use Rattle.der.proofs.Theorems.{taken_within, splits}
 use Rattle.der.proofs.reader.split.Goals as goal
 

@@ -1,4 +1,4 @@
-use Rattle.std.proofs.Common.{◌≡◌, ◌+◌, ◌≤◌, length, sym, refl, ap, ◌∙◌, subst, arith, rules}
+use Rattle.std.proofs.Common.{◌≡◌, ◌+◌, ◌≤◌, length, sym, refl, ◌∙◌, subst, arith, rules}
 use Rattle.std.specs.List.{between}
 use Rattle.oid.proofs.Pages.{between_placed}
 use Rattle.der.specs.Laws.{ReadsWhole}

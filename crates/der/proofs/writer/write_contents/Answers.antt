@@ -1,4 +1,4 @@
-use Rattle.std.proofs.Common.{◌≡◌, ◌+◌, ◌-◌, ◌≤◌, ◌++◌, length, get_or, drop, sym, ap, ◌∙◌, arith}
+use Rattle.std.proofs.Common.{◌≡◌, ◌+◌, ◌-◌, ◌≤◌, ◌++◌, length, drop, sym, ap, ◌∙◌, arith}
 use Rattle.oid.specs.Pages.{placed}
 use Rattle.oid.proofs.Pages.{placed_none, placed_both}
 use Rattle.der.specs.Base128.{base128}

@@ -1,4 +1,4 @@
-use Rattle.std.proofs.Common.{◌≡◌, IfOk, Ok, Err, Result, subst}
+use Rattle.std.proofs.Common.{IfOk, Ok, Err, Result, subst}
 use Rattle.chip.specs.Counting.{Counts}
 use Rattle.chip.proofs.Counted.{tallied_more}
 use Rattle.chip.proofs.stickers.StickersLineTaker.take_line.Goals as goal

@@ -1,4 +1,4 @@
-use Rattle.std.proofs.Common.{sym, refl, ap, ◌∙◌}
+use Rattle.std.proofs.Common.{sym, refl}
 use Rattle.conformance.proofs.Compared.{compared_kept, compared_differs, compared_agrees}
 use Rattle.conformance.proofs.Options.{some_found, none_found}
 use Rattle.conformance.proofs.taking.ComparisonLineTaker.take_line.Goals as goal

@@ -1,5 +1,4 @@
-use Rattle.std.proofs.Common.{not, length, ap, ◌∙◌}
-use Rattle.input.specs.Limits.{line_limit}
+use Rattle.std.proofs.Common.{not, ap, ◌∙◌}
 use Rattle.input.proofs.Taking.{not_long}
 use Rattle.input.proofs.line.Line.is_whole.Goals as goal
 

@@ -12,9 +12,8 @@ pub invariant_of-result : goal.invariant_of-result
 invariant_of-result c =
     let i = c.args.self.now in
     let facts = owed _ (arcs_of i ++ c.args.arc ∷ []) _ (laid_child i c.args.arc (omega arith))
-        (keeps_push (arcs_of i) c.args.arc (keeps_arcs i) (omega (arith, len_is i)) (arc_found c.args.arc _ (c.arc_of.ensures ∙ ap arc_of c.from.ensures) true c.if-is_none.ensures)) in
+    (keeps_push (arcs_of i) c.args.arc (keeps_arcs i) (omega (arith, len_is i)) (arc_found c.args.arc _ (c.arc_of.ensures ∙ ap arc_of c.from.ensures) true c.if-is_none.ensures)) in
     record { places = facts.places; within = facts.within; rule = facts.rule; rest = facts.rest }
-
 
 pub returns : goal.returns
 returns c =

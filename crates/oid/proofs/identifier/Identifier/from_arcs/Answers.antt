@@ -12,7 +12,6 @@ invariant_of-result c =
     let facts = owed _ c.args.arcs.now _ (refl, c.filled_up.ensures) (keeps c.args.arcs.now (sym c.if-not-keeps_rule.ensures)) in
     record { places = facts.places; within = facts.within; rule = facts.rule; rest = facts.rest }
 
-
 pub returns : goal.returns
 returns c =
     ap Some (take_laid _ c.args.arcs.now _ (refl, c.filled_up.ensures))

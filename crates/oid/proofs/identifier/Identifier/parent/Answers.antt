@@ -10,9 +10,8 @@ pub invariant_of-result : goal.invariant_of-result
 invariant_of-result c =
     let i = c.args.self.now in
     let facts = owed _ (take (i.len - 1) (arcs_of i)) _ (laid_parent i (omega arith))
-        (keeps_take (i.len - 1) (arcs_of i) (keeps_arcs i) (omega arith) (omega (arith, len_is i))) in
+    (keeps_take (i.len - 1) (arcs_of i) (keeps_arcs i) (omega arith) (omega (arith, len_is i))) in
     record { places = facts.places; within = facts.within; rule = facts.rule; rest = facts.rest }
-
 
 pub returns : goal.returns
 returns c =
