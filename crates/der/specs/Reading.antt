@@ -1,7 +1,7 @@
 -- The reading of an identifier from the front of some bytes: its questions, in order.
 use Rattle.std.specs.Prelude.{ℕ, ◌+◌, ◌-◌, cond, ◌&&◌, List, [], ◌∷◌, length, Some, None, Ok, Option, Result, nat_le, nat_lt, slice_index}
 use Rattle.std.specs.Option.{option_map}
-use Rattle.std.specs.Result.{result_map_both as mappedOk}
+use Rattle.std.specs.Result.{result_map_both}
 use Rattle.oid.specs.Arcs.{arc_limit}
 use Rattle.oid.specs.Numbers.{Number, values, too_large, first_at}
 use Rattle.oid.specs.Refusals.{fault_at, ask}
@@ -47,4 +47,4 @@ read_der bytes =
 
 -- What the reader tells: the bytes taken, or the fault.
 abbrev pub taken : List ℕ → Result ℕ Fault
-taken bytes = mappedOk (λ arcs. taken_in bytes) (λ fault. fault) (read_der bytes)
+taken bytes = result_map_both (λ arcs. taken_in bytes) (λ fault. fault) (read_der bytes)

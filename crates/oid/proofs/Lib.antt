@@ -2,6 +2,7 @@ pub mod Arcs
 pub mod Digits
 pub mod Tree
 pub mod Places
+pub mod Sameness
 pub mod Numbers
 pub mod Collecting
 pub mod Pages
