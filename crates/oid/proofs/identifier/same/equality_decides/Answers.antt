@@ -1,4 +1,4 @@
-use Rattle.oid.proofs.Sameness.{equality_decides}
+use Rattle.oid.proofs.Equality.{equality_decides}
 use Rattle.oid.proofs.identifier.same.equality_decides.Goals as goal
 
 pub returns : goal.returns

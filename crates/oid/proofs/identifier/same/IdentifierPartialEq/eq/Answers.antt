@@ -1,7 +1,7 @@
 use Rattle.std.proofs.Common.{◌≡◌, Bool, Decides, sym, subst, ◌∙◌, ◌==◌}
 use Rattle.std.specs.Cmp.Lexicographic.{pointwise}
 use Rattle.oid.specs.Meaning.{arcs_of}
-use Rattle.oid.proofs.Sameness.{equality_decides}
+use Rattle.oid.proofs.Equality.{equality_decides}
 use Rattle.oid.proofs.identifier.same.IdentifierPartialEq.eq.Goals as goal
 
 pub returns : goal.returns
