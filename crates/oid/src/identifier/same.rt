@@ -25,8 +25,8 @@ impl Eq for Identifier {
 }
 
 // What `==` computes decides equality; so `!=` and code that compares identifiers by the trait alone decide it too.
-pub fn equality_decides() -> u8
+pub fn equality_decides()
     ensures { EqualityDecides }
 {
-    0
+    ()
 }
