@@ -5,12 +5,15 @@ pub mod arc;
 pub mod collector;
 pub mod identifier;
 pub mod numeral;
+pub mod page;
 pub mod refusal;
 #[cfg(test)]
 mod tests;
+mod words;
 
 pub use arc::Arc;
 pub use collector::Collector;
 pub use identifier::Identifier;
 pub use numeral::Numeral;
+pub use page::fits;
 pub use refusal::{Fault, Refusal};
