@@ -51,23 +51,6 @@ all_arcs_take (Prim.Native.Nat.suc n) (arc ∷ arcs) h =
     let p = and_parts (is_arc arc) (all_arcs arcs) h in
     and_from (is_arc arc) _ p.0 (all_arcs_take n arcs p.1)
 
--- the walk over a list of numbers: past an arc, and at the first number that is none
-pub all_arcs_more : (numbers : List ℕ) (i : ℕ) → i < length numbers → is_arc (get_or numbers i 0) ≡ true
-    → all_arcs (drop i numbers) ≡ all_arcs (drop (i + 1) numbers)
-unfolding all_arcs
-all_arcs_more numbers i h a =
-    let e : all_arcs (drop i numbers) ≡ (is_arc (get_or numbers i 0) && all_arcs (drop (i + 1) numbers)) =
-    at_drop_more all_arcs numbers i 0 h in
-    e ∙ ap (λ t. t && all_arcs (drop (i + 1) numbers)) a
-
-pub all_arcs_stop : (numbers : List ℕ) (i : ℕ) → i < length numbers → is_arc (get_or numbers i 0) ≡ false
-    → all_arcs (drop i numbers) ≡ false
-unfolding all_arcs
-all_arcs_stop numbers i h a =
-    let e : all_arcs (drop i numbers) ≡ (is_arc (get_or numbers i 0) && all_arcs (drop (i + 1) numbers)) =
-    at_drop_more all_arcs numbers i 0 h in
-    e ∙ ap (λ t. t && all_arcs (drop (i + 1) numbers)) a
-
 -- one arc more, where there is room for it
 pub keeps_push : (arcs : List ℕ) (arc : ℕ) → Keeps arcs → length arcs < most_arcs → is_arc arc ≡ true → Keeps (arcs ++ arc ∷ [])
 keeps_push arcs arc k room a =

@@ -1,5 +1,6 @@
 -- The tree of identifiers, on lists of arcs: which lists are identifiers, and how two of them are related.
 use Rattle.std.specs.Prelude.{ℕ, ◌-◌, Bool, true, false, cond, ◌&&◌, ◌||◌, List, [], ◌∷◌, ◌++◌, length, take, Some, None, Option, ◌==◌, nat_le, nat_lt, slice_index}
+use Rattle.std.specs.List.{list_all}
 use Rattle.oid.specs.Arcs.{is_arc}
 
 -- how many arcs an identifier has at least, and at most
@@ -18,8 +19,7 @@ last_second = 39
 
 -- every number of the list is an arc
 unfoldable pub all_arcs : List ℕ → Bool
-all_arcs [] = true
-all_arcs (n ∷ ns) = is_arc n && all_arcs ns
+all_arcs numbers = list_all is_arc numbers
 
 -- the first arc is 0, 1 or 2, and under 0 and 1 the second is at most 39
 abbrev pub starts_well : ℕ → ℕ → Bool

@@ -9,12 +9,9 @@ pub type Arc = u32;
 pub const ARC_LIMIT: Arc = 4_294_967_295;
 
 // The number as an arc; none where it is above the limit.
+#[tactic(auto, using(crate::proofs::Arcs::arc_of_some, crate::proofs::Arcs::arc_of_none), unfolding(crate::specs::Arcs::arc_limit))]
 pub fn arc_of(number: u64) -> Option<Arc>
     ensures { result ≡ arc_of number }
 {
-    if number <= ARC_LIMIT as u64 {
-        Some(number as Arc)
-    } else {
-        None
-    }
+    Arc::try_from(number).ok().filter(|arc| *arc <= ARC_LIMIT)
 }

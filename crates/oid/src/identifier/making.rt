@@ -38,7 +38,7 @@ impl Identifier {
         ensures rule { is_identifier result.now ≡ true }
         ensures only { (other : Identifier) → arcs_of other ≡ result.now → other ≡ self.now }
     {
-        &self.arcs[0..self.len]
+        &self.arcs[..self.len]
     }
 
     // How many arcs there are.
@@ -55,7 +55,7 @@ fn filled_up(arcs: &[Arc]) -> [Arc; MOST_ARCS]
     ensures { result ≡ arcs.now ++ replicate (most_arcs - length arcs.now) 0 }
 {
     let mut places = [0; MOST_ARCS];
-    places[0..arcs.len()].copy_from_slice(arcs);
+    places[..arcs.len()].copy_from_slice(arcs);
     places
 }
 
@@ -74,13 +74,11 @@ fn starts_well(first: Arc, second: Arc) -> bool
     first == LAST_ROOT || first < LAST_ROOT && second <= LAST_SECOND
 }
 
+#[tactic(auto, unfolding(crate::specs::Tree::all_arcs))]
 fn all_arcs(numbers: &[Arc]) -> bool
     ensures { result ≡ all_arcs numbers.now }
 {
-    for number in numbers {
-        if arc_of(u64::from(*number)).is_none() {
-            return false;
-        }
-    }
-    true
+    numbers
+        .iter()
+        .all(|number| arc_of(u64::from(*number)).is_some())
 }
