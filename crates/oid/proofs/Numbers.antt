@@ -1,5 +1,6 @@
 -- Laws of the questions about numbers: what each outcome of them makes of the reading.
 use Rattle.std.proofs.Common.{◌≡◌, ℕ, ◌<◌, ◌≤◌, Bool, true, false, cond, not, ◌&&◌, ltb, leb, List, [], ◌∷◌, ◌++◌, map, length, get_or, Some, None, Ok, Err, Option, Result, unwrap_or, sym, refl, ap, ◌∙◌, arith}
+use Rattle.std.specs.Bool.{then_some}
 use Rattle.std.specs.Option.{option_map, option_or}
 use Rattle.std.proofs.lemmas.List.{length-map}
 use Rattle.std.proofs.lemmas.Bool.{and_parts, and_from, leb-true, and_left, and_right, le-leb, lt-leb, not-false, cond-false}
@@ -27,14 +28,14 @@ pub too_many : (n : ℕ) → most_arcs < n → right_count n ≡ false
 too_many n h = and_right (leb fewest_arcs n) _ (lt-leb n most_arcs h)
 
 pub first_at_push : (test : Number → Bool) (numbers : List Number) (number : Number)
-    → first_at test (numbers ++ number ∷ []) ≡ option_or (first_at test numbers) (cond (test number) (Some number.offset) None)
+    → first_at test (numbers ++ number ∷ []) ≡ option_or (first_at test numbers) (then_some (test number) number.offset)
 unfolding first_at
-first_at_push test [] number = refl
+first_at_push test [] number = elim (test number) as (λ v. cond v (Some number.offset) None ≡ then_some v number.offset) [ true ↦ refl | false ↦ refl ]
 first_at_push test (first ∷ numbers) number = go (test first) (first_at_push test numbers number)
   where
     go : (v : Bool)
-        → first_at test (numbers ++ number ∷ []) ≡ option_or (first_at test numbers) (cond (test number) (Some number.offset) None)
-        → cond v (Some first.offset) (first_at test (numbers ++ number ∷ [])) ≡ option_or (cond v (Some first.offset) (first_at test numbers)) (cond (test number) (Some number.offset) None)
+        → first_at test (numbers ++ number ∷ []) ≡ option_or (first_at test numbers) (then_some (test number) number.offset)
+        → cond v (Some first.offset) (first_at test (numbers ++ number ∷ [])) ≡ option_or (cond v (Some first.offset) (first_at test numbers)) (then_some (test number) number.offset)
     go true e = refl
     go false e = e
 

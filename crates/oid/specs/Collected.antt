@@ -1,11 +1,11 @@
 -- What a collector knows of the numbers that it was given.
-use Rattle.std.specs.Prelude.{◌≡◌, ℕ, ◌+◌, min, List, [], ◌∷◌, ◌++◌, map, length, take, Result}
+use Rattle.std.specs.Prelude.{◌≡◌, ℕ, ◌-◌, ◌^◌, min, List, [], ◌∷◌, ◌++◌, map, length, take, Result}
 use Rattle.std.specs.Option.{unwrap_or}
 use Rattle.std.specs.Result.{result_map_both}
 use Rattle.oid.specs.Arcs.{arc_of}
 use Rattle.oid.specs.Meaning.{arcs_of}
 use Rattle.oid.specs.Numbers.{Number, offsets, too_large, first_at, read_numbers}
-use Rattle.oid.specs.Tree.{most_arcs}
+use Rattle.oid.specs.Tree.{most_arcs, fewest_arcs}
 use Rattle.oid.specs.declared.collector.Collector.{Collector}
 use Rattle.oid.specs.declared.identifier.Identifier.{Identifier}
 use Rattle.oid.specs.declared.numeral.Numeral.{Numeral}
@@ -19,12 +19,12 @@ numeral_of number = record { offset = number.offset; arc = arc_of number.value; 
 abbrev pub stored_arc : Number → ℕ
 stored_arc number = unwrap_or (arc_of number.value) 0
 
--- the collector was given these numbers: it has the first 16, counts them up to 17, and knows where the
--- first fault of each kind is
+-- the collector was given these numbers: it counts them, has the first 16 and where the first two begin, and knows where
+-- the first fault of each kind is
 pub record Collected (collector : Collector) (numbers : List Number) : Type 0 where
-  pub count : collector.count ≡ min (length numbers) (most_arcs + 1)
+  pub count : collector.count ≡ min (length numbers) (2 ^ 64 - 1)
   pub arcs : take (length numbers) collector.arcs ≡ take most_arcs (map stored_arc numbers)
-  pub starts : take (length numbers) collector.offsets ≡ take most_arcs (offsets numbers)
+  pub starts : take (length numbers) collector.starts ≡ take fewest_arcs (offsets numbers)
   pub padded : collector.padded ≡ first_at (λ number. number.padded) numbers
   pub large : collector.large ≡ first_at too_large numbers
 

@@ -1,21 +1,21 @@
 // Numbers as a reader meets them, kept as far as the shared questions need them.
 ghost use Rattle.std.specs.Prelude.{◌≡◌, length};
-ghost use Rattle.oid.specs.Tree.{most_arcs};
+ghost use Rattle.oid.specs.Tree.{most_arcs, fewest_arcs};
 
 use crate::arc::Arc;
-use crate::identifier::MOST_ARCS;
+use crate::identifier::{FEWEST_ARCS, MOST_ARCS};
 
 mod filling;
 
-// Takes any count of numbers in constant memory: the first 16, how many there were (17 stands for more
-// than 16), and where the first one with a leading zero and the first too large one begin.
+// Takes any count of numbers in constant memory: how many there were, the first 16, where the first two begin, and where
+// the first one with a leading zero and the first too large one do.
 #[derive(Clone, Copy)]
 pub struct Collector {
-    arcs: [Arc; MOST_ARCS],
-    offsets: [usize; MOST_ARCS],
     count: usize,
+    arcs: [Arc; MOST_ARCS],
+    starts: [usize; FEWEST_ARCS],
     padded: Option<usize>,
     large: Option<usize>,
     ghost arc_places: { length arcs ≡ most_arcs },
-    ghost offset_places: { length offsets ≡ most_arcs },
+    ghost start_places: { length starts ≡ fewest_arcs },
 }

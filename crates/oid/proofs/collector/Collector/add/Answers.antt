@@ -6,11 +6,10 @@ use Rattle.oid.proofs.collector.Collector.add.Goals as goal
 pub returns : goal.returns
 returns c =
     let before = c.args.self.now in
-    let put = c.put.ensures in
     collected_more before _ c.args.numeral c.is_none.result
-    put.count
-    (put.arcs ∙ ap (set before.arcs before.count) c.unwrap_or.ensures)
-    put.offsets
-    (c.or-self.ensures ∙ λ i. option_or (put.same.0 i) (c.offset_if.ensures i))
+    c.saturating_add-self.ensures
+    (c.store.ensures ∙ ap (set before.arcs before.count) c.unwrap_or.ensures)
+    c.store-2.ensures
+    (c.or-self.ensures ∙ ap (option_or before.padded) c.then_some.ensures)
     c.is_none.ensures
-    (c.or-self-2.ensures ∙ λ i. option_or (put.same.1 i) (c.offset_if-2.ensures i))
+    (c.or-self-2.ensures ∙ ap (option_or before.large) c.then_some-2.ensures)

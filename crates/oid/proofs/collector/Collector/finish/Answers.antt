@@ -1,6 +1,7 @@
-use Rattle.std.proofs.Common.{◌≡◌, ◌-◌, false, length, take, Err, sym, ap, ◌∙◌, arith}
-use Rattle.oid.specs.Tree.{identified}
-use Rattle.oid.proofs.Collecting.{finish_some, finish_none}
+use Rattle.std.proofs.Common.{◌≡◌, false, length, Err, sym, ap, ◌∙◌, arith}
+use Rattle.std.specs.Result.{result_map_both}
+use Rattle.oid.specs.Meaning.{arcs_of}
+use Rattle.oid.proofs.Collecting.{finished}
 use Rattle.oid.proofs.Numbers.{right_count, too_few, too_many, read_zero, read_large, read_count}
 use Rattle.oid.proofs.collector.Collector.finish.Goals as goal
 use Rattle.oid.proofs.collector.Collector.finish.Goals.{then-self-lt-FEWEST_ARCS-via-then-self-lt-FEWEST_ARCS, then-self-lt-FEWEST_ARCS-via-else-self-lt-FEWEST_ARCS+then-self-gt-MOST_ARCS}
@@ -22,17 +23,8 @@ returns-then-self-lt-FEWEST_ARCS c numbers known =
     ap Err c.at-then-self-lt-FEWEST_ARCS.ensures
     ∙ sym (read_count numbers (sym known.padded ∙ c.in_default.is) (sym known.large ∙ c.in_default-large.is) miscounted)
 
-pub returns-in-Some-from_arcs : goal.returns-in-Some-from_arcs
-returns-in-Some-from_arcs c numbers known =
-    let g = c.args.self.now in
-    let from_0 : g.count - 0 ≡ g.count = omega arith in
-    finish_some g numbers known c.in_default.is c.in_default-large.is c.if-self-lt-FEWEST_ARCS.false c.if-self-gt-MOST_ARCS.false _
-    (c.in-Some-from_arcs.ensures ∙ ap (λ n. identified (take n g.arcs)) from_0)
-
-pub returns-in-None : goal.returns-in-None
-returns-in-None c numbers known =
-    let g = c.args.self.now in
-    let from_0 : g.count - 0 ≡ g.count = omega arith in
-    ap Err c.at-in-None.ensures
-    ∙ finish_none g numbers known c.in_default.is c.in_default-large.is c.if-self-lt-FEWEST_ARCS.false c.if-self-gt-MOST_ARCS.false _
-    (c.in-None.ensures ∙ ap (λ n. identified (take n g.arcs)) from_0) c.wrong_arc_offset.ensures
+pub returns : goal.returns
+returns c numbers known =
+    ap (result_map_both arcs_of (λ other. other)) c.ok_or.ensures.value
+    ∙ finished c.args.self.now numbers known c.in_default.is c.in_default-large.is c.if-self-lt-FEWEST_ARCS.false c.if-self-gt-MOST_ARCS.false
+    c.from_arcs.result _ _ c.from_arcs.ensures c.at-2.ensures c.wrong_start.ensures

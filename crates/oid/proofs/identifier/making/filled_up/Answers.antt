@@ -1,4 +1,4 @@
-use Rattle.std.proofs.Common.{◌++◌, length, ap, ◌∙◌}
+use Rattle.std.proofs.Common.{◌++◌, length}
 use Rattle.std.proofs.lemmas.List.{drop-replicate}
 use Rattle.oid.specs.Tree.{most_arcs}
 use Rattle.oid.proofs.identifier.making.filled_up.Goals as goal
