@@ -1,6 +1,6 @@
 -- What proofs may know of the arc limit. Besides, the proof of `arc_of` ties it to the code's constant, and worked
 -- examples compute with it.
-use Rattle.std.proofs.Common.{◌≡◌, ℕ, ◌+◌, ◌^◌, ◌<◌, ◌≤◌, Bool, true, false, cond, is_some, Some, None, Option, sym, refl, ap, ◌∙◌, arith}
+use Rattle.std.proofs.Common.{◌≡◌, ℕ, ◌+◌, ◌^◌, ◌<◌, ◌≤◌, true, false, cond, is_some, Some, None, refl, arith}
 use Rattle.std.proofs.lemmas.Bool.{cond-true, cond-false, le-leb, lt-leb}
 use Rattle.oid.specs.Arcs.{arc_limit, is_arc, arc_of}
 use Rattle.oid.specs.Tree.{last_second}
@@ -29,7 +29,3 @@ arc_of_none n h = cond-false (is_arc n) _ _ (lt-leb n arc_limit h)
 -- an arc that is found is one
 pub is_arc_is : (n : ℕ) → is_some (arc_of n) ≡ is_arc n
 is_arc_is n = elim (is_arc n) as (λ v. is_some (cond v (Some n) None) ≡ v) [ true ↦ refl | false ↦ refl ]
-
--- what a call of `arc_of` at n found
-pub arc_found : (n : ℕ) (o : Option ℕ) → o ≡ arc_of n → (found : Bool) → is_some o ≡ found → is_arc n ≡ found
-arc_found n o e found h = sym (is_arc_is n) ∙ ap is_some (sym e) ∙ h

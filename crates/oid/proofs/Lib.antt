@@ -1,6 +1,7 @@
 pub mod Arcs
 pub mod Digits
 pub mod Tree
+pub mod Family
 pub mod Places
 pub mod Equality
 pub mod Numbers

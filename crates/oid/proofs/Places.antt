@@ -1,12 +1,12 @@
 -- Identifiers with the same arcs are the same value, and what whoever makes one owes.
-use Rattle.std.proofs.Common.{◌≡◌, ℕ, suc, ◌+◌, ◌-◌, ◌<◌, ◌≤◌, true, List, [], ◌∷◌, ◌++◌, length, take, drop, set, replicate, sym, ap, ◌∙◌, append_assoc, arith}
+use Rattle.std.proofs.Common.{◌≡◌, ℕ, ◌-◌, ◌≤◌, true, List, ◌++◌, length, take, drop, replicate, sym, ap, ◌∙◌, arith}
 use denote.Struct.Record.{values_one}
-use Rattle.std.proofs.lemmas.List.{length-append, length-replicate, length_push, take-take, length-take-le, take_at, drop_at, take-append-drop, drop-drop, drop-replicate, set_split}
+use Rattle.std.proofs.lemmas.List.{length-append, length-replicate, length-take-le, take_at, drop_at, take-append-drop}
 use Rattle.oid.specs.Meaning.{arcs_of}
 use Rattle.oid.specs.Tree.{most_arcs, is_identifier}
 use Rattle.oid.specs.declared.identifier.Identifier.{Identifier}
 use Rattle.oid.specs.contracts.identifier.Identifier.{struct, the_propositions}
-use Rattle.oid.proofs.Tree.{Keeps, keeps, kept}
+use Rattle.oid.proofs.Tree.{Keeps, kept}
 
 -- the places hold the list, and 0 after it
 abbrev pub Laid : List ℕ → ℕ → List ℕ → Type 0
@@ -43,40 +43,8 @@ module _ (i : Identifier) where
   pub len_is : i.len ≡ length (arcs_of i)
   len_is = sym (length-take-le i.len i.arcs (omega (arith, i.within, i.places)))
 
-  pub keeps_arcs : Keeps (arcs_of i)
-  keeps_arcs = keeps (arcs_of i) i.rule
-
   pub laid : Laid i.arcs i.len (arcs_of i)
   laid = (len_is, sym (take-append-drop i.len i.arcs) ∙ ap (λ l. arcs_of i ++ l) i.rest)
-
-  -- what follows the first unused places
-  after : (n : ℕ) → drop (i.len + n) i.arcs ≡ replicate (most_arcs - i.len - n) 0
-  after n = sym (drop-drop n i.len i.arcs) ∙ ap (drop n) i.rest ∙ drop-replicate n (most_arcs - i.len) 0
-
-  -- one arc more
-  pub laid_child : (arc : ℕ) → i.len < most_arcs → Laid (set i.arcs i.len arc) (i.len + 1) (arcs_of i ++ arc ∷ [])
-  laid_child arc room =
-      let whole = i.places in
-      let cut = set_split i.arcs i.len arc (omega arith) in
-      let next : suc i.len ≡ i.len + 1 = omega arith in
-      let fewer : most_arcs - i.len - 1 ≡ most_arcs - (i.len + 1) = omega arith in
-      let rest : drop (suc i.len) i.arcs ≡ replicate (most_arcs - (i.len + 1)) 0 =
-      ap (λ n. drop n i.arcs) next ∙ after 1 ∙ ap (λ n. replicate n 0) fewer in
-      let regroup = append_assoc (arcs_of i) (arc ∷ []) (replicate (most_arcs - (i.len + 1)) 0) in
-      (omega (arith, len_is, length_push (arcs_of i) arc), cut ∙ ap (λ l. arcs_of i ++ arc ∷ l) rest ∙ sym regroup)
-
-  -- one arc less
-  pub laid_parent : 0 < i.len → Laid (set i.arcs (i.len - 1) 0) (i.len - 1) (take (i.len - 1) (arcs_of i))
-  laid_parent some =
-      let whole = i.places in
-      let cut = set_split i.arcs (i.len - 1) 0 (omega (arith, i.within)) in
-      let back : suc (i.len - 1) ≡ i.len = omega arith in
-      let more : suc (most_arcs - i.len) ≡ most_arcs - (i.len - 1) = omega (arith, i.within) in
-      let rest : 0 ∷ drop (suc (i.len - 1)) i.arcs ≡ replicate (most_arcs - (i.len - 1)) 0 =
-      ap (λ n. 0 ∷ drop n i.arcs) back ∙ ap (λ l. 0 ∷ l) i.rest ∙ ap (λ n. replicate n 0) more in
-      let front : take (i.len - 1) i.arcs ≡ take (i.len - 1) (arcs_of i) =
-      sym (take-take (i.len - 1) i.len i.arcs (omega arith)) in
-      (sym (length-take-le (i.len - 1) (arcs_of i) (omega (arith, len_is))), cut ∙ (λ k. front k ++ rest k))
 
 pub same_from_arcs : (i j : Identifier) → arcs_of i ≡ arcs_of j → i ≡ j
 same_from_arcs i j e =

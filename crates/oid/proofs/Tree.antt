@@ -1,6 +1,6 @@
 -- Laws of the tree's rule and of fronts, on lists of arcs.
-use Rattle.std.proofs.Common.{◌≡◌, ℕ, ◌<◌, ◌≤◌, Bool, true, false, cond, ◌&&◌, eqb, leb, List, [], ◌∷◌, ◌++◌, length, get_or, take, drop, Some, None, Decides, refl, arith}
-use Rattle.std.proofs.lemmas.List.{length_push, length-take-le, get_or-take, get_or_append_left}
+use Rattle.std.proofs.Common.{◌≡◌, ℕ, ◌≤◌, Bool, true, false, cond, ◌&&◌, eqb, leb, List, [], ◌∷◌, ◌++◌, length, get_or, take, drop, Some, None, Decides, refl, arith}
+use Rattle.std.proofs.lemmas.List.{length-take-le, get_or-take}
 use Rattle.std.proofs.lemmas.Bool.{both_ways, and_parts, and_from, eqb-true, eq-eqb, leb-true, le-leb}
 use Rattle.std.proofs.lemmas.Bool.Decides.{same_from_decides}
 use Rattle.oid.specs.Arcs.{arc_limit, is_arc}
@@ -36,12 +36,13 @@ kept arcs k =
     and_from (leb fewest_arcs (length arcs)) _ (le-leb _ _ k.long)
     (and_from (leb (length arcs) most_arcs) _ (le-leb _ _ k.short) (and_from (starts_well (get_or arcs 0 0) (get_or arcs 1 0)) _ k.start k.each))
 
-pub all_arcs_push : (arcs : List ℕ) (arc : ℕ) → all_arcs arcs ≡ true → is_arc arc ≡ true → all_arcs (arcs ++ arc ∷ []) ≡ true
+-- one number more is an arc or not
+pub all_arcs_push : (arcs : List ℕ) (arc : ℕ) → all_arcs arcs ≡ true → all_arcs (arcs ++ arc ∷ []) ≡ is_arc arc
 unfolding all_arcs
-all_arcs_push [] arc h a = and_from (is_arc arc) true a refl
-all_arcs_push (n ∷ ns) arc h a =
+all_arcs_push [] arc h = and_true (is_arc arc)
+all_arcs_push (n ∷ ns) arc h =
     let p = and_parts (is_arc n) (all_arcs ns) h in
-    and_from (is_arc n) _ p.0 (all_arcs_push ns arc p.1 a)
+    rw (p.0) (all_arcs_push ns arc p.1)
 
 pub all_arcs_take : (n : ℕ) (arcs : List ℕ) → all_arcs arcs ≡ true → all_arcs (take n arcs) ≡ true
 unfolding all_arcs
@@ -50,18 +51,6 @@ all_arcs_take (Prim.Native.Nat.suc n) [] h = refl
 all_arcs_take (Prim.Native.Nat.suc n) (arc ∷ arcs) h =
     let p = and_parts (is_arc arc) (all_arcs arcs) h in
     and_from (is_arc arc) _ p.0 (all_arcs_take n arcs p.1)
-
--- one arc more, where there is room for it
-pub keeps_push : (arcs : List ℕ) (arc : ℕ) → Keeps arcs → length arcs < most_arcs → is_arc arc ≡ true → Keeps (arcs ++ arc ∷ [])
-keeps_push arcs arc k room a =
-    let first = get_or_append_left arcs (arc ∷ []) 0 0 (omega (arith, k.long)) in
-    let second = get_or_append_left arcs (arc ∷ []) 0 1 (omega (arith, k.long)) in
-    record {
-      long = omega (arith, length_push arcs arc, k.long);
-      short = omega (arith, length_push arcs arc);
-      each = all_arcs_push arcs arc k.each a;
-      start = rw (first, second) k.start;
-    }
 
 -- the first arcs, two or more of them
 pub keeps_take : (n : ℕ) (arcs : List ℕ) → Keeps arcs → 2 ≤ n → n ≤ length arcs → Keeps (take n arcs)

@@ -4,38 +4,28 @@ ghost use Rattle.std.specs.Option.{option_map};
 ghost use Rattle.oid.specs.Meaning.{arcs_of};
 ghost use Rattle.oid.specs.Tree.{parent_of, child_of, at_or_below, below};
 
-use super::{FEWEST_ARCS, Identifier, MOST_ARCS};
-use crate::arc::{Arc, arc_of};
+use super::{Identifier, MOST_ARCS};
+use crate::arc::Arc;
 
 impl Identifier {
     // The identifier without its last arc; none for one of two arcs.
     pub fn parent(&self) -> Option<Identifier>
         ensures { option_map arcs_of result ≡ parent_of (arcs_of self.now) }
     {
-        if self.len <= FEWEST_ARCS {
-            return None;
-        }
-        let mut arcs = self.arcs;
-        arcs[self.len - 1] = 0;
-        Some(Identifier {
-            arcs,
-            len: self.len - 1,
-        })
+        let (_, front) = self.arcs().split_last()?;
+        Identifier::from_arcs(front)
     }
 
     // The identifier with one arc more; none past the most arcs.
     pub fn child(&self, arc: Arc) -> Option<Identifier>
         ensures { option_map arcs_of result ≡ child_of (arcs_of self.now) arc }
     {
-        if self.len >= MOST_ARCS || arc_of(u64::from(arc)).is_none() {
+        if self.len >= MOST_ARCS {
             return None;
         }
         let mut arcs = self.arcs;
         arcs[self.len] = arc;
-        Some(Identifier {
-            arcs,
-            len: self.len + 1,
-        })
+        Identifier::from_arcs(&arcs[..self.len + 1])
     }
 
     // Whether the other's arcs are the first arcs of this one.
