@@ -1,15 +1,16 @@
 -- Bytes that are read as an identifier are its encoding, and what follows.
-use Rattle.std.proofs.Common.{◌≡◌, ℕ, suc, ◌+◌, ◌-◌, ◌<◌, ◌≤◌, Bool, true, false, cond, eqb, leb, List, [], ◌∷◌, ◌++◌, map, length, get_or, take, drop, Some, None, Ok, sym, refl, ap, ◌∙◌, ⊎_elim, arith}
+use Rattle.std.proofs.Common.{◌≡◌, ℕ, suc, ◌+◌, ◌-◌, ◌<◌, ◌≤◌, Bool, true, false, cond, List, [], ◌∷◌, ◌++◌, map, length, get_or, drop, None, Ok, sym, refl, ap, ◌∙◌, ⊎_elim, arith}
 use Rattle.std.specs.List.{flat_map, AllByRecursion as All}
-use Rattle.std.proofs.lemmas.List.{take-append-drop, length-take-le, length-take, get_or-take, get_or-drop, get_or_past}
-use Rattle.std.proofs.lemmas.Bool.{and_parts, eqb-true, leb-true, ltb-true, ltb-false, both_ways, cases_lt}
+use Rattle.std.proofs.lemmas.List.{length-take, get_or-take, get_or-drop, get_or_past}
+use Rattle.std.proofs.lemmas.Bool.{ltb-true, ltb-false, both_ways, cases_lt}
 use Rattle.oid.specs.Numbers.{values, first_at}
 use Rattle.oid.specs.Refusals.{fault_at}
-use Rattle.oid.specs.declared.refusal.Fault.{Fault}
 use Rattle.oid.specs.declared.refusal.Refusal.TheVariants.{Padded}
 use Rattle.oid.proofs.Numbers.{none_mapped, yes_cond, asked, accepted, first_at_none}
+use Rattle.std.proofs.lemmas.Bool.Decides.{nat_tests}
+use Rattle.std.proofs.lemmas.Grind.{common_steps}
 use Rattle.der.specs.Base128.{more, is_last}
-use Rattle.der.specs.Header.{tag, most_contents, header_length, length_in, taken_in, contents_in, length_holds, bad_header}
+use Rattle.der.specs.Header.{tag, header_length, length_in, taken_in, contents_in, bad_header}
 use Rattle.der.specs.Laws.{Bytes, Encodes}
 use Rattle.der.specs.Reading.{unfinished, padded_subidentifiers, read_subidentifiers, read_der}
 use Rattle.der.specs.Subidentifiers.{Series, longer, series_from, number_in, subidentifiers_from, arcs_in, arc_numbers}
@@ -33,12 +34,10 @@ longer_joined offset byte (first ∷ others) = refl
 all_series : (bytes : List ℕ) (offset : ℕ) → flat_map bytes_in (series_from offset bytes) ≡ bytes
 unfolding series_from
 all_series [] offset = refl
-all_series (byte ∷ rest) offset = go (is_last byte) (all_series rest (offset + 1))
-  where
-    go : (v : Bool) → flat_map bytes_in (series_from (offset + 1) rest) ≡ rest
-        → flat_map bytes_in (cond v (record { offset = offset; bytes = byte ∷ [] } ∷ series_from (offset + 1) rest) (longer offset byte (series_from (offset + 1) rest))) ≡ byte ∷ rest
-    go true e = ap (λ l. byte ∷ l) e
-    go false e = longer_joined offset byte (series_from (offset + 1) rest) ∙ ap (λ l. byte ∷ l) e
+all_series (byte ∷ rest) offset =
+    let others = all_series rest (offset + 1) in
+    let longer = longer_joined offset byte (series_from (offset + 1) rest) in
+    grind (arith, nat_tests)
 
 -- each series of contents that end with a last byte is one number's
 abbrev One : Series → Type 0
@@ -54,10 +53,7 @@ longer_all offset byte [] low high some all = absurd (omega arith)
 longer_all offset byte (first ∷ others) low high some all = (longer_one byte first.bytes low high all.0, all.1)
 
 ends_rest : (byte next : ℕ) (rest : List ℕ) → Ends (byte ∷ (next ∷ rest)) → Ends (next ∷ rest)
-ends_rest byte next rest h =
-    let one : suc (length rest) ≡ suc (suc (length rest)) - 1 = omega arith in
-    let two : suc (length rest) - 1 ≡ length rest = omega arith in
-    ap (λ n. is_last (get_or (next ∷ rest) n 0)) two ∙ ap (λ n. is_last (get_or (byte ∷ (next ∷ rest)) n 0)) one ∙ h
+ends_rest byte next rest h = grind (arith, nat_tests, common_steps)
 
 all_one : (bytes : List ℕ) (offset : ℕ) → Bytes bytes → Ends bytes → All One (series_from offset bytes)
 unfolding series_from
@@ -107,18 +103,9 @@ pub record GoodHeader (bytes : List ℕ) : Type 0 where
   pub some : 1 ≤ length_in bytes
   pub there : taken_in bytes ≤ length bytes
 
-yes_yes : (v w : Bool) (one other : Fault) → cond v (cond w None (Some one)) (Some other) ≡ None → (v ≡ true) × (w ≡ true)
-yes_yes true true one other e = (refl, refl)
-yes_yes true false one other e = let z : ◌≡◌ {A = ℕ} 0 1 = cc in absurd (omega arith)
-yes_yes false w one other e = let z : ◌≡◌ {A = ℕ} 0 1 = cc in absurd (omega arith)
-
 pub good_header : (bytes : List ℕ) → bad_header bytes ≡ None → GoodHeader bytes
 unfolding bad_header
-good_header bytes e =
-    let both = yes_yes (eqb (get_or bytes 0 0) tag) (length_holds bytes) _ _ e in
-    let one = and_parts (leb 1 (length_in bytes)) _ both.1 in
-    let two = and_parts (leb (length_in bytes) most_contents) _ one.1 in
-    record { tagged = eqb-true (get_or bytes 0 0) tag both.0; some = leb-true 1 (length_in bytes) one.0; there = leb-true (taken_in bytes) (length bytes) two.1 }
+good_header bytes e = record { tagged = grind (arith, nat_tests); some = grind (arith, nat_tests); there = grind (arith, nat_tests) }
 
 -- the header, the contents and the rest make up the bytes
 parts_of : (bytes : List ℕ) → GoodHeader bytes
@@ -126,12 +113,9 @@ parts_of : (bytes : List ℕ) → GoodHeader bytes
 parts_of [] good = absurd (omega (arith, good.there))
 parts_of (first ∷ []) good = absurd (omega (arith, good.there))
 parts_of (first ∷ (second ∷ rest)) good =
-    let long : second ≡ length (take second rest) = sym (length-take-le second rest (omega (arith, good.there))) in
-    let count : suc (suc second) ≡ 2 + second = omega arith in
-    let past : drop (suc (suc second)) (first ∷ (second ∷ rest)) ≡ drop (2 + second) (first ∷ (second ∷ rest)) =
-    ap (λ n. drop n (first ∷ (second ∷ rest))) count in
-    (λ k. good.tagged k ∷ (long k ∷ sym (take-append-drop second rest) k))
-    ∙ ap (λ l. tag ∷ (length (take second rest) ∷ (take second rest ++ l))) past
+    let tagged = good.tagged in
+    let there = good.there in
+    grind (arith, common_steps)
 
 bytes_contents : (bytes : List ℕ) → Bytes bytes → Bytes (contents_in bytes)
 bytes_contents bytes each i = ⊎_elim inside past (cases_lt i (length_in bytes))

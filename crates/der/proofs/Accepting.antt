@@ -1,7 +1,9 @@
 -- The encoding of an identifier, whatever follows it, is read as that identifier.
-use Rattle.std.proofs.Common.{◌≡◌, ℕ, ◌+◌, ◌-◌, ◌/◌, ◌%◌, ◌<◌, ◌≤◌, true, eqb, List, [], ◌∷◌, ◌++◌, length, get_or, take, drop, None, Ok, sym, refl, ap, ◌∙◌, arith}
-use Rattle.std.proofs.lemmas.List.{length-map, length-append, append-nil, get_or-append_right, get_or_push, drop_at, take_at}
-use Rattle.std.proofs.lemmas.Bool.{cond-false, lt-ltb}
+use Rattle.std.proofs.Common.{◌≡◌, ℕ, ◌+◌, ◌-◌, ◌<◌, ◌≤◌, true, eqb, List, [], ◌∷◌, ◌++◌, length, get_or, take, drop, None, Ok, sym, refl, ap, ◌∙◌, arith}
+use Rattle.std.proofs.lemmas.List.{length-map, length-append, append-nil, drop_at, take_at}
+use Rattle.std.proofs.lemmas.Bool.{cond-false}
+use Rattle.std.proofs.lemmas.Bool.Decides.{nat_tests}
+use Rattle.std.proofs.lemmas.Grind.{common_steps}
 use Rattle.oid.specs.Numbers.{Number, values, first_at}
 use Rattle.oid.specs.Tree.{all_arcs, starts_well, is_identifier}
 use Rattle.oid.proofs.Numbers.{counted, read_all, none_too_large}
@@ -12,32 +14,24 @@ use Rattle.der.specs.Reading.{read_subidentifiers, read_der}
 use Rattle.der.specs.Subidentifiers.{number_in, subidentifiers_from, series_from, arcs_in, arc_numbers}
 use Rattle.der.specs.Writing.{subidentifiers_of, contents_of, der_bytes}
 use Rattle.der.proofs.Contents.{written, contents_written, contents_most, bytes_are, length_bytes, length_subs}
-use Rattle.der.proofs.Digits.{higher, base128_is, length-base128, first_base128, value_base128, base128_unpadded}
-use Rattle.der.proofs.Headers.{length_fits, header_holds}
+use Rattle.der.proofs.Digits.{some_bytes, value_base128, base128_unpadded}
 use Rattle.der.proofs.Joining.{root_joined, second_joined}
 use Rattle.der.proofs.Reading.{arcs_plain, values_arcs, read_arcs, read_finished}
-use Rattle.der.proofs.Series.{series, subs_next}
+use Rattle.der.proofs.Series.{series, first_base128, subs_next}
 
 -- the last byte of a list can be the last of a subidentifier
 abbrev pub Ends : List ℕ → Type 0
 Ends bytes = is_last (get_or bytes (length bytes - 1) 0) ≡ true
 
 ends_base128 : (n : ℕ) → Ends (base128 n)
-ends_base128 n =
-    let q = higher (n / 128) in
-    let at : length (base128 n) - 1 ≡ length q = omega (arith, length-base128 n) in
-    let last : get_or (base128 n) (length (base128 n) - 1) 0 ≡ n % 128 =
-    (λ k. get_or (base128_is n k) (at k) 0) ∙ get_or_push q (n % 128) 0 (length q) refl in
-    ap is_last last ∙ lt-ltb (n % 128) more (omega arith)
+unfolding base128
+ends_base128 n = grind (arith, nat_tests, common_steps)
 
 ends_append : (front back : List ℕ) → 0 < length back → Ends back → Ends (front ++ back)
-ends_append front back some h =
-    let long = length-append front back in
-    let at : length (front ++ back) - 1 - length front ≡ length back - 1 = omega arith in
-    ap is_last (get_or-append_right front back (length front) (length (front ++ back) - 1) 0 refl (omega arith) ∙ ap (λ n. get_or back n 0) at) ∙ h
+ends_append front back some h = grind (arith, nat_tests, common_steps)
 
 some_written : (n : ℕ) (others : List ℕ) → 0 < length (written (n ∷ others))
-some_written n others = omega (arith, length-append (base128 n) (written others), length-base128 n)
+some_written n others = omega (arith, length-append (base128 n) (written others), some_bytes n)
 
 pub ends_written : (n : ℕ) (others : List ℕ) → Ends (written (n ∷ others))
 ends_written n [] = ap (λ l. is_last (get_or l (length l - 1) 0)) (append-nil (base128 n)) ∙ ends_base128 n
@@ -121,14 +115,18 @@ module _ (arcs : List ℕ) (rule : is_identifier arcs ≡ true) (rest : List ℕ
           record { some = omega (arith, ap length is, some_written n others); ended = ap (λ l. is_last (get_or l (length l - 1) 0)) is ∙ ends_written n others }
 
   header_good : bad_header bytes ≡ None
+  unfolding bad_header
   header_good =
-      let tagged : eqb (get_or bytes 0 0) 6 ≡ true = ap (λ l. eqb (get_or l 0 0) 6) split_up in
+      let tagged = ap (λ l. get_or l 0 0) split_up in
       let long = ap length split_up in
-      header_holds bytes tagged (length_fits bytes (omega (arith, told, some_contents.some)) (omega (arith, told, contents_most arcs rule)) (omega (arith, told, length-append (contents_of arcs) rest)))
+      let both = length-append (contents_of arcs) rest in
+      let some = some_contents.some in
+      let few = contents_most arcs rule in
+      let count = told in
+      grind (arith, nat_tests)
 
   pub read_bytes : read_der bytes ≡ Ok arcs
   read_bytes =
-      let ended = ap (λ l. is_last (get_or l (length l - 1) 0)) contents_is ∙ some_contents.ended in
-      read_finished bytes (sym header_good) ended
-      ∙ ap (λ l. read_subidentifiers (subidentifiers_from header_length l)) (contents_is ∙ contents_written arcs)
+      read_finished bytes (contents_of arcs) (sym header_good) (sym contents_is) some_contents.ended
+      ∙ ap (λ l. read_subidentifiers (subidentifiers_from header_length l)) (contents_written arcs)
       ∙ read_numbers_lem _ arcs rule (read_back (subidentifiers_of arcs) header_length)

@@ -1,10 +1,12 @@
 -- The contents of an identifier's encoding: their parts, and how long they can be.
-use Rattle.std.proofs.Common.{◌≡◌, ℕ, ◌+◌, ◌-◌, ◌*◌, ◌<◌, ◌≤◌, true, eqb, ltb, leb, List, [], ◌∷◌, ◌++◌, length, get_or, drop, refl, ap, ◌∙◌, ⊎_elim, arith}
-use Rattle.std.specs.List.{flat_map}
+use Rattle.std.proofs.Common.{◌≡◌, ℕ, ◌+◌, ◌*◌, ◌<◌, ◌≤◌, true, List, [], ◌∷◌, ◌++◌, length, get_or, drop, sym, refl, ap, ◌∙◌, arith}
+use Rattle.std.specs.List.{flat_map, sum_by}
+use Rattle.std.proofs.lemmas.List.Concat.{length-flat_map}
 use Rattle.std.proofs.lemmas.List.{at_drop_more, at_drop_all, length-append}
-use Rattle.std.proofs.lemmas.Bool.{and_parts, or_cases, leb-true, ltb-true, eqb-true}
+use Rattle.std.proofs.lemmas.Bool.{and_parts, leb-true}
+use Rattle.std.proofs.lemmas.Bool.Decides.{nat_tests}
 use Rattle.oid.specs.Arcs.{arc_limit, is_arc}
-use Rattle.oid.specs.Tree.{last_root, last_second, starts_well, all_arcs, is_identifier}
+use Rattle.oid.specs.Tree.{last_root, starts_well, all_arcs, is_identifier}
 use Rattle.oid.proofs.Arcs.{limit_digits}
 use Rattle.oid.proofs.Tree.{Keeps, keeps}
 use Rattle.der.specs.Base128.{base128}
@@ -21,24 +23,40 @@ pub contents_written : (arcs : List ℕ) → contents_of arcs ≡ written (subid
 unfolding contents_of
 contents_written arcs = refl
 
--- the subidentifiers from that of the arc at i on, which has the place before it
+-- the subidentifiers from i on, one by one
 module _ (subs : List ℕ) (i : ℕ) where
-  module _ (some : 1 ≤ i) (inside : i ≤ length subs) where
-    pub written_more : written (drop (i - 1) subs) ≡ base128 (get_or subs (i - 1) 0) ++ written (drop (i + 1 - 1) subs)
-    written_more =
-        let next : i - 1 + 1 ≡ i + 1 - 1 = omega arith in
-        at_drop_more written subs (i - 1) 0 (omega arith)
-        ∙ ap (λ n. base128 (get_or subs (i - 1) 0) ++ written (drop n subs)) next
+  pub written_more : i < length subs → written (drop i subs) ≡ base128 (get_or subs i 0) ++ written (drop (i + 1) subs)
+  written_more inside = at_drop_more written subs i 0 inside
 
-    pub length_more : length (written (drop (i - 1) subs)) ≡ length (base128 (get_or subs (i - 1) 0)) + length (written (drop (i + 1 - 1) subs))
-    length_more = ap length written_more ∙ length-append (base128 (get_or subs (i - 1) 0)) (written (drop (i + 1 - 1) subs))
+  pub length_more : i < length subs
+      → length (written (drop i subs)) ≡ length (base128 (get_or subs i 0)) + length (written (drop (i + 1) subs))
+  length_more inside =
+      ap length (written_more inside) ∙ length-append (base128 (get_or subs i 0)) (written (drop (i + 1) subs))
 
-  module _ (past : length subs < i) where
-    pub written_none : written (drop (i - 1) subs) ≡ []
-    written_none = at_drop_all written subs (i - 1) (omega arith)
+  pub written_none : length subs ≤ i → written (drop i subs) ≡ []
+  written_none past = at_drop_all written subs i past
 
-    pub length_none : length (written (drop (i - 1) subs)) ≡ 0
-    length_none = ap length written_none
+-- the contents of which a first subidentifier and the others are known
+pub contents_are : (arcs : List ℕ) (first : ℕ) (others : List ℕ) → first ∷ others ≡ subidentifiers_of arcs
+    → contents_of arcs ≡ base128 first ++ written others
+contents_are arcs first others is = contents_written arcs ∙ ap written (sym is)
+
+-- how many bytes a number has, and how many they have together
+abbrev pub count_bytes : ℕ → ℕ
+count_bytes n = length (base128 n)
+
+pub length_are : (arcs : List ℕ) (first : ℕ) (others : List ℕ) → first ∷ others ≡ subidentifiers_of arcs
+    → length (contents_of arcs) ≡ count_bytes first + sum_by count_bytes others
+length_are arcs first others is =
+    ap length (contents_are arcs first others is) ∙ length-append (base128 first) (written others)
+    ∙ ap (λ n. count_bytes first + n) (length-flat_map base128 others)
+
+-- an identifier's subidentifiers: its first two arcs joined, and the others
+pub subs_are : (arcs : List ℕ) → 2 ≤ length arcs
+    → joined_arcs (get_or arcs 0 0) (get_or arcs 1 0) ∷ drop 2 arcs ≡ subidentifiers_of arcs
+subs_are [] h = absurd (omega arith)
+subs_are (first ∷ []) h = absurd (omega arith)
+subs_are (first ∷ (second ∷ others)) h = refl
 
 -- one subidentifier less than arcs
 pub length_subs : (arcs : List ℕ) → 2 ≤ length arcs → length (subidentifiers_of arcs) + 1 ≡ length arcs
@@ -59,10 +77,7 @@ later_most (arc ∷ arcs) h =
     omega (arith, length-append (base128 arc) (written arcs), later_most arcs parts.1)
 
 root_few : (first second : ℕ) → starts_well first second ≡ true → first ≤ last_root
-root_few first second h = ⊎_elim
-    (λ e. omega (arith, eqb-true first last_root e))
-    (λ both. omega (arith, ltb-true first last_root (and_parts (ltb first last_root) (leb second last_second) both).0))
-    (or_cases (eqb first last_root) _ h)
+root_few first second h = grind (arith, nat_tests)
 
 -- the contents of an identifier are so short that one byte tells their length
 pub contents_most : (arcs : List ℕ) → is_identifier arcs ≡ true → length (contents_of arcs) ≤ most_contents
@@ -79,9 +94,6 @@ contents_most arcs h = go arcs (keeps arcs h)
         let few = root_few first second k.start in
         let first_few = sub_most (joined_arcs first second) (omega arith) in
         omega (arith, k.short, length-append (base128 (joined_arcs first second)) (written others), later_most others two.1)
-
-pub some_arcs : (arcs : List ℕ) → is_identifier arcs ≡ true → 2 ≤ length arcs
-some_arcs arcs h = (keeps arcs h).long
 
 -- the whole encoding
 pub bytes_are : (arcs : List ℕ) → der_bytes arcs ≡ (tag ∷ (length (contents_of arcs) ∷ [])) ++ contents_of arcs

@@ -1,119 +1,54 @@
 -- Numbers in base 128: their bytes, how many there are, and the number back from them.
-use Rattle.std.proofs.Common.{◌≡◌, ℕ, suc, ◌+◌, ◌-◌, ◌*◌, ◌/◌, ◌%◌, ◌^◌, ◌<◌, ◌≤◌, min, true, false, cond, eqb, List, [], ◌∷◌, ◌++◌, map, length, get_or, take, drop, set, sym, refl, ap, ◌∙◌, ⊎_elim, append_assoc, arith}
+use Rattle.std.proofs.Common.{◌≡◌, ℕ, suc, ◌+◌, ◌-◌, ◌*◌, ◌/◌, ◌%◌, ◌^◌, ◌<◌, ◌≤◌, false, eqb, List, [], ◌∷◌, ◌++◌, map, length, get_or, sym, refl, ap, ◌∙◌, ⊎_elim, append_assoc, arith}
 use native.Mathlib.Nat.{pow-succ'}
 use Rattle.std.specs.Int.Digits.{digits_of, number_from_digits_after, number_from_digits, AllBelowBase}
 use Rattle.std.proofs.lemmas.Int.Digits.{digits_of_step, length-digits_of-le, all_below_base_digits_of, first_digits_of, number_push, number_lt, number_digits_of}
-use Rattle.std.proofs.lemmas.List.{map_push, length-map, length_push, drop-set, take_more, append-nil, at_drop_more, at_drop_all}
-use Rattle.std.proofs.lemmas.Bool.{cond-true, cond-false, cases_lt, lt-ltb, le-ltb, ne_eqb, eqb-false}
-use Rattle.oid.proofs.Digits.{value_more}
-use Rattle.der.specs.Base128.{more, is_last, digit_in, value_of, base128, first_series}
+use Rattle.std.proofs.lemmas.List.{map_push, length-map}
+use Rattle.std.proofs.lemmas.Bool.{cases_lt, eqb-false}
+use Rattle.std.proofs.lemmas.Bool.Decides.{nat_tests}
+use Rattle.std.proofs.lemmas.Grind.{common_steps}
+use Rattle.digits.specs.Digits.{digits_in}
+use Rattle.der.specs.Base128.{more, digit_in, value_of, base128}
 
 -- the digits of a number, with 80 added to each: what stands before the last byte
 abbrev pub higher : ℕ → List ℕ
 higher n = map (λ digit. more + digit) (digits_of 128 n)
 
-pub higher_none : (n : ℕ) → n ≡ 0 → higher n ≡ []
-higher_none n e = ap higher e
-
-pub higher_step : (n : ℕ) → 0 < n → higher n ≡ higher (n / 128) ++ ((128 + n % 128) ∷ [])
+higher_step : (n : ℕ) → 0 < n → higher n ≡ higher (n / 128) ++ ((128 + n % 128) ∷ [])
 higher_step n h =
     ap (map (λ digit. more + digit)) (digits_of_step 128 n (omega arith) h)
     ∙ map_push (λ digit. more + digit) (digits_of 128 (n / 128)) (n % 128)
 
-pub base128_is : (n : ℕ) → base128 n ≡ higher (n / 128) ++ (n % 128 ∷ [])
+base128_is : (n : ℕ) → base128 n ≡ higher (n / 128) ++ (n % 128 ∷ [])
 unfolding base128
 base128_is n = refl
 
-pub length_higher_none : (n : ℕ) → n ≡ 0 → length (higher n) ≡ 0
-length_higher_none n e = ap length (higher_none n e)
+-- as many bytes as digits
+pub length_digits : (n : ℕ) → length (digits_in 128 n) ≡ length (base128 n)
+unfolding digits_in base128
+length_digits n = grind (arith, common_steps)
 
-pub length_higher_step : (n : ℕ) → 0 < n → length (higher n) ≡ length (higher (n / 128)) + 1
-length_higher_step n h = ap length (higher_step n h) ∙ length_push (higher (n / 128)) (128 + n % 128)
-
-pub length-base128 : (n : ℕ) → length (base128 n) ≡ length (higher (n / 128)) + 1
-length-base128 n = ap length (base128_is n) ∙ length_push (higher (n / 128)) (n % 128)
+pub some_bytes : (n : ℕ) → 0 < length (base128 n)
+unfolding base128
+some_bytes n = grind (arith, common_steps)
 
 -- a number of at most k digits more than one
 pub length-base128-le : (k n : ℕ) → n / 128 < 128 ^ k → length (base128 n) ≤ k + 1
-length-base128-le k n h =
-    omega (arith, length-base128 n, length-map (digits_of 128 (n / 128)) (λ digit. more + digit), length-digits_of-le 128 k (n / 128) (omega arith) h)
+unfolding base128
+length-base128-le k n h = let few = length-digits_of-le 128 k (n / 128) (omega arith) h in grind (arith, common_steps)
 
--- no number of 64 bits has more bytes
-pub length_most : (n : ℕ) → n < 2 ^ 64 → length (base128 n) ≤ 10
-length_most n fits = length-base128-le 9 n (omega arith)
+-- each byte is a digit, with 80 added to it or, at the last, without
+pub higher_byte : (n i : ℕ) → i + 1 < length (digits_in 128 n) → get_or (base128 n) i 0 ≡ 128 + get_or (digits_in 128 n) i 0
+unfolding digits_in base128
+higher_byte n i h = grind (arith, common_steps)
 
--- a higher digit goes down, and the others are still to be written
-pub page_step : (n at : ℕ) (page : List ℕ) → 0 < n → at < length page
-    → higher (n / 128) ++ drop at (set page at (128 + n % 128)) ≡ higher n ++ drop (at + 1) page
-page_step n at page h inside =
-    ap (λ l. higher (n / 128) ++ l) (drop-set page at (128 + n % 128) inside)
-    ∙ sym (append_assoc (higher (n / 128)) ((128 + n % 128) ∷ []) (drop (at + 1) page))
-    ∙ ap (λ l. l ++ drop (at + 1) page) (sym (higher_step n h))
-
--- the last digit goes down first
-pub page_first : (n at : ℕ) (page : List ℕ) → at < length page
-    → higher (n / 128) ++ drop at (set page at (n % 128)) ≡ base128 n ++ drop (at + 1) page
-page_first n at page inside =
-    ap (λ l. higher (n / 128) ++ l) (drop-set page at (n % 128) inside)
-    ∙ sym (append_assoc (higher (n / 128)) ((n % 128) ∷ []) (drop (at + 1) page))
-    ∙ ap (λ l. l ++ drop (at + 1) page) (sym (base128_is n))
-
--- the bytes at the front that belong to one number, from i on
-module _ (bytes : List ℕ) (i : ℕ) where
-  module _ (inside : i < length bytes) where
-    by_first : first_series (drop i bytes) ≡ cond (is_last (get_or bytes i 0)) (get_or bytes i 0 ∷ []) (get_or bytes i 0 ∷ first_series (drop (i + 1) bytes))
-    unfolding first_series
-    by_first = at_drop_more first_series bytes i 0 inside
-
-    pub series_last : is_last (get_or bytes i 0) ≡ true → first_series (drop i bytes) ≡ get_or bytes i 0 ∷ []
-    series_last e = by_first ∙ cond-true _ _ _ e
-
-    pub series_more : is_last (get_or bytes i 0) ≡ false
-        → first_series (drop i bytes) ≡ get_or bytes i 0 ∷ first_series (drop (i + 1) bytes)
-    series_more e = by_first ∙ cond-false _ _ _ e
-
-  pub series_end : length bytes ≤ i → first_series (drop i bytes) ≡ []
-  unfolding first_series
-  series_end past = at_drop_all first_series bytes i past
+pub last_byte : (n i : ℕ) → i + 1 ≡ length (digits_in 128 n) → get_or (base128 n) i 0 ≡ get_or (digits_in 128 n) i 0
+unfolding digits_in base128
+last_byte n i h = grind (arith, common_steps)
 
 -- the largest number of 64 bits
 abbrev pub cap : ℕ
 cap = 2 ^ 64 - 1
-
--- the walk over the bytes of one number: those before i belong to it, and are counted in as far as 64 bits go
-module _ (bytes : List ℕ) (i value : ℕ) (belong : first_series bytes ≡ take i bytes ++ first_series (drop i bytes)) (counted : value ≡ min (value_of (take i bytes)) cap) where
-  pub counted_next : (product sum digit : ℕ) → i < length bytes → product ≡ min (value * 128) cap
-      → digit ≡ digit_in (get_or bytes i 0) → sum ≡ min (product + digit) cap → sum ≡ min (value_of (take (i + 1) bytes)) cap
-  counted_next product sum digit inside p d s = omega (arith, value_more 128 digit_in bytes i inside)
-
-  pub belong_next : i < length bytes → is_last (get_or bytes i 0) ≡ false
-      → first_series bytes ≡ take (i + 1) bytes ++ first_series (drop (i + 1) bytes)
-  belong_next inside e =
-      belong ∙ ap (λ l. take i bytes ++ l) (series_more bytes i inside e)
-      ∙ sym (append_assoc (take i bytes) (get_or bytes i 0 ∷ []) (first_series (drop (i + 1) bytes)))
-      ∙ ap (λ l. l ++ first_series (drop (i + 1) bytes)) (sym (take_more bytes i 0 inside))
-
-  pub belong_last : i < length bytes → is_last (get_or bytes i 0) ≡ true → take (i + 1) bytes ≡ first_series bytes
-  belong_last inside e =
-      take_more bytes i 0 inside ∙ sym (belong ∙ ap (λ l. take i bytes ++ l) (series_last bytes i inside e))
-
-  pub belong_all : length bytes ≤ i → take i bytes ≡ first_series bytes
-  belong_all past = sym (belong ∙ ap (λ l. take i bytes ++ l) (series_end bytes i past) ∙ append-nil (take i bytes))
-
--- the bytes of a number, and what follows them
-first_higher : (digits : List ℕ) (byte : ℕ) (rest : List ℕ) → byte < more
-    → first_series (map (λ digit. more + digit) digits ++ byte ∷ rest) ≡ map (λ digit. more + digit) digits ++ byte ∷ []
-unfolding first_series
-first_higher [] byte rest last = cond-true (is_last byte) _ _ (lt-ltb byte more last)
-first_higher (digit ∷ digits) byte rest last =
-    cond-false (is_last (more + digit)) _ _ (le-ltb (more + digit) more (omega arith))
-    ∙ ap (λ l. (more + digit) ∷ l) (first_higher digits byte rest last)
-
-pub first_base128 : (n : ℕ) (rest : List ℕ) → first_series (base128 n ++ rest) ≡ base128 n
-first_base128 n rest =
-    ap (λ l. first_series (l ++ rest)) (base128_is n)
-    ∙ ap first_series (append_assoc (higher (n / 128)) (n % 128 ∷ []) rest)
-    ∙ first_higher (digits_of 128 (n / 128)) (n % 128) rest (omega arith) ∙ sym (base128_is n)
 
 -- the digits come back from the bytes
 digits_back : (digits : List ℕ) → AllBelowBase 128 digits → map digit_in (map (λ digit. more + digit) digits) ≡ digits
@@ -133,18 +68,16 @@ value_base128 n =
     ∙ omega (arith, number_digits_of 128 q (omega arith))
 
 -- no number begins with a needless digit
-unpadded : (digits last : List ℕ) → 0 < get_or digits 0 0 → get_or (map (λ digit. more + digit) digits ++ last) 0 0 ≡ more → ⊥
-unpadded [] last h e = omega arith
-unpadded (digit ∷ digits) last h e = omega arith
+unpadded : (digits last : List ℕ) → 0 < get_or digits 0 0 → eqb (get_or (map (λ digit. more + digit) digits ++ last) 0 0) more ≡ false
+unpadded [] last some = grind (arith, nat_tests)
+unpadded (digit ∷ digits) last some = grind (arith, nat_tests)
 
 pub base128_unpadded : (n : ℕ) → eqb (get_or (base128 n) 0 0) more ≡ false
-base128_unpadded n = ne_eqb (get_or (base128 n) 0 0) more (λ e. first (ap (λ l. get_or l 0 0) (sym (base128_is n)) ∙ e))
-  where
-    first : get_or (higher (n / 128) ++ (n % 128 ∷ [])) 0 0 ≡ more → ⊥
-    first e = ⊎_elim
-        (λ some. unpadded (digits_of 128 (n / 128)) (n % 128 ∷ []) (first_digits_of 128 (n / 128) (omega arith) some) e)
-        (λ none. omega (arith, ap (λ l. get_or (l ++ (n % 128 ∷ [])) 0 0) (higher_none (n / 128) (omega arith))))
-        (cases_lt 0 (n / 128))
+unfolding base128
+base128_unpadded n = ⊎_elim
+    (λ some. unpadded (digits_of 128 (n / 128)) (n % 128 ∷ []) (first_digits_of 128 (n / 128) (omega arith) some))
+    (λ none. let zero : n / 128 ≡ 0 = omega arith in ap (λ q. eqb (get_or (higher q ++ (n % 128 ∷ [])) 0 0) more) zero ∙ grind (arith, nat_tests))
+    (cases_lt 0 (n / 128))
 
 -- the bytes of one number: 80 is added to each but the last
 abbrev pub SeriesOfOne : List ℕ → Type 0
@@ -176,16 +109,16 @@ base128_value [] h fresh = absurd h
 base128_value (byte ∷ []) h fresh =
     let m = 0 * 128 + byte % 128 in
     let r : byte ≡ m % 128 = omega arith in
-    sym (ap (λ l. l ++ (m % 128 ∷ [])) (higher_none (m / 128) (omega arith)) ∙ ap (λ n. n ∷ []) (sym r))
-    ∙ sym (base128_is m)
+    let none : m / 128 ≡ 0 = omega arith in
+    ap (λ n. n ∷ []) r ∙ sym (ap (λ q. higher q ++ (m % 128 ∷ [])) none) ∙ sym (base128_is m)
 base128_value (byte ∷ (next ∷ rest)) h fresh =
     let m = 0 * 128 + byte % 128 in
     let other : byte ≡ more → ⊥ = eqb-false byte more fresh in
     let some : 0 < m = omega (arith, h.0, h.1, other) in
     let whole : byte ≡ 128 + m % 128 = omega (arith, h.0, h.1) in
+    let none : m / 128 ≡ 0 = omega arith in
     let first : byte ∷ [] ≡ higher m =
-    ap (λ n. n ∷ []) whole
-    ∙ sym (higher_step m some ∙ ap (λ l. l ++ (128 + m % 128) ∷ []) (higher_none (m / 128) (omega arith))) in
+    ap (λ n. n ∷ []) whole ∙ sym (higher_step m some ∙ ap (λ q. higher q ++ (128 + m % 128) ∷ []) none) in
     ap (λ l. l ++ (next ∷ rest)) first ∙ after_higher (next ∷ rest) m h.2 some
 
 -- digits are below the base

@@ -2,9 +2,8 @@ pub mod Accepted
 pub mod Accepting
 pub mod Contents
 pub mod Digits
-pub mod Headers
 pub mod Joining
-pub mod Padding
 pub mod Reading
 pub mod Series
 pub mod Theorems
+pub mod Writing

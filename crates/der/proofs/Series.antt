@@ -1,88 +1,101 @@
 -- Contents, series by series.
-use Rattle.std.proofs.Common.{◌≡◌, ℕ, suc, ◌+◌, ◌<◌, ◌≤◌, Bool, true, false, cond, List, [], ◌∷◌, ◌++◌, map, length, drop, sym, refl, ap, ◌∙◌, arith}
-use Rattle.std.proofs.lemmas.List.{at_drop_all, length-drop, drop-drop, append_assoc, append-nil}
-use Rattle.oid.specs.Numbers.{Number}
-use Rattle.der.specs.Base128.{is_last, value_of, first_series}
-use Rattle.der.specs.Subidentifiers.{Series, longer, series_from, number_in, subidentifiers_from, root_in, second_in, arc_number, later_arc, arc_numbers}
+use Rattle.std.proofs.Common.{◌≡◌, ℕ, suc, ◌+◌, ◌/◌, ◌%◌, ◌<◌, Bool, true, false, cond, not, eqb, List, [], ◌∷◌, ◌++◌, map, length, get_or, take, drop, Some, None, Option, MatchOption, sym, refl, ap, ◌∙◌, arith}
+use Rattle.std.specs.List.{find, position, position_or_len}
+use Rattle.std.specs.Option.{option_map}
+use Rattle.std.proofs.lemmas.List.{append_assoc, append-nil}
+use Rattle.std.proofs.lemmas.Bool.{eqb-true, eqb-false}
+use Rattle.oid.specs.Numbers.{Number, first_at}
+use Rattle.der.specs.Base128.{more, is_last, value_of, base128, first_series}
+use Rattle.std.specs.Int.Digits.{digits_of}
+use Rattle.std.proofs.lemmas.Bool.Decides.{nat_tests}
+use Rattle.std.proofs.lemmas.Grind.{common_steps}
+use Rattle.der.specs.Subidentifiers.{Series, series_from, number_in, subidentifiers_from, root_in, second_in, arc_number, later_arc, arc_numbers}
+use Rattle.der.specs.declared.subidentifiers.Subidentifier.{Subidentifier}
 
 abbrev pub series : ℕ → List ℕ → Series
 series offset bytes = record { offset = offset; bytes = bytes }
 
-pub first_within : (bytes : List ℕ) → length (first_series bytes) ≤ length bytes
+-- the first series goes up to the first byte that can be a last one
+first_series_is : (bytes : List ℕ) → first_series bytes ≡ take (suc (position_or_len is_last bytes)) bytes
 unfolding first_series
-first_within [] = omega arith
-first_within (byte ∷ rest) = go (is_last byte) (first_within rest)
+first_series_is [] = refl
+first_series_is (byte ∷ rest) = go (is_last byte) (first_series_is rest)
   where
-    go : (v : Bool) → length (first_series rest) ≤ length rest
-        → length (cond v (byte ∷ []) (byte ∷ first_series rest)) ≤ length (byte ∷ rest)
-    go true h = omega arith
-    go false h = omega arith
+    go : (v : Bool) → first_series rest ≡ take (suc (position_or_len is_last rest)) rest
+        → cond v (byte ∷ []) (byte ∷ first_series rest) ≡ byte ∷ take (cond (not v) (1 + position_or_len is_last rest) 0) rest
+    go true e = refl
+    go false e = grind (arith, common_steps)
 
-pub first_some : (bytes : List ℕ) → 0 < length bytes → 0 < length (first_series bytes)
+-- what a search for that byte tells: where the first series ends, and what follows begins
+pub series_found : (bytes : List ℕ) (found : Option ℕ) → found ≡ position is_last bytes
+    → MatchOption found ((bytes ≡ first_series bytes) × ([] ≡ drop (length (first_series bytes)) bytes)) (λ last. (take (last + 1) bytes ≡ first_series bytes) × (drop (last + 1) bytes ≡ drop (length (first_series bytes)) bytes))
+series_found bytes None e = let is = first_series_is bytes in grind (arith, nat_tests, common_steps)
+series_found bytes (Some last) e = let is = first_series_is bytes in grind (arith, nat_tests, common_steps)
+
+-- the bytes of a number, and what follows them
+first_higher : (digits : List ℕ) (byte : ℕ) (rest : List ℕ) → byte < more
+    → first_series ((map (λ digit. more + digit) digits ++ byte ∷ []) ++ rest) ≡ map (λ digit. more + digit) digits ++ byte ∷ []
 unfolding first_series
-first_some [] h = absurd (omega arith)
-first_some (byte ∷ rest) h = go (is_last byte)
-  where
-    go : (v : Bool) → 0 < length (cond v (byte ∷ []) (byte ∷ first_series rest))
-    go true = omega arith
-    go false = omega arith
+first_higher [] byte rest last = grind (arith, nat_tests)
+first_higher (digit ∷ digits) byte rest last = let others = first_higher digits byte rest last in grind (arith, nat_tests)
+
+pub first_base128 : (n : ℕ) (rest : List ℕ) → first_series (base128 n ++ rest) ≡ base128 n
+unfolding base128
+first_base128 n rest = first_higher (digits_of 128 (n / 128)) (n % 128) rest (omega arith)
 
 -- the first series, and those of what follows
 pub series_next : (offset : ℕ) (bytes : List ℕ) → 0 < length bytes
     → series_from offset bytes ≡ series offset (first_series bytes) ∷ series_from (offset + length (first_series bytes)) (drop (length (first_series bytes)) bytes)
 unfolding first_series series_from
 series_next offset [] h = absurd (omega arith)
-series_next offset (byte ∷ []) h = go (is_last byte)
-  where
-    go : (v : Bool)
-        → cond v (series offset (byte ∷ []) ∷ []) (series offset (byte ∷ []) ∷ []) ≡ series offset (cond v (byte ∷ []) (byte ∷ [])) ∷ series_from (offset + length (cond v (byte ∷ []) (byte ∷ []))) (drop (length (cond v (byte ∷ []) (byte ∷ []))) (byte ∷ []))
-    go true = refl
-    go false = refl
-series_next offset (byte ∷ (next ∷ rest)) h = go (is_last byte) (series_next (offset + 1) (next ∷ rest) (omega arith))
-  where
-    after : List ℕ
-    after = next ∷ rest
-
-    go : (v : Bool)
-        → series_from (offset + 1) after ≡ series (offset + 1) (first_series after) ∷ series_from (offset + 1 + length (first_series after)) (drop (length (first_series after)) after)
-        → cond v (series offset (byte ∷ []) ∷ series_from (offset + 1) after) (longer offset byte (series_from (offset + 1) after)) ≡ series offset (cond v (byte ∷ []) (byte ∷ first_series after)) ∷ series_from (offset + length (cond v (byte ∷ []) (byte ∷ first_series after))) (drop (length (cond v (byte ∷ []) (byte ∷ first_series after))) (byte ∷ after))
-    go true e = refl
-    go false e =
-        let further : offset + 1 + length (first_series after) ≡ offset + suc (length (first_series after)) = omega arith in
-        ap (longer offset byte) e
-        ∙ ap (λ n. series offset (byte ∷ first_series after) ∷ series_from n (drop (length (first_series after)) after)) further
+series_next offset (byte ∷ []) h = grind (arith, nat_tests)
+series_next offset (byte ∷ (next ∷ rest)) h =
+    let others = series_next (offset + 1) (next ∷ rest) (omega arith) in grind (arith, nat_tests)
 
 pub subs_next : (offset : ℕ) (bytes : List ℕ) → 0 < length bytes
     → subidentifiers_from offset bytes ≡ number_in (series offset (first_series bytes)) ∷ subidentifiers_from (offset + length (first_series bytes)) (drop (length (first_series bytes)) bytes)
 subs_next offset bytes h = ap (map number_in) (series_next offset bytes h)
 
--- the walk from subidentifier to subidentifier: where the one that begins at `at` ends, and the arcs of those behind it
-module _ (bytes : List ℕ) (at : ℕ) (inside : at < length bytes) (end : ℕ) (ends : end ≡ at + length (first_series (drop at bytes))) where
-  pub end_after : at < end
-  end_after = omega (arith, first_some (drop at bytes) (omega (arith, length-drop at bytes)))
+-- the same of what is known as the first series, and as what follows it
+pub series_split : (offset : ℕ) (bytes front back : List ℕ) → false ≡ eqb (length bytes) 0 → front ≡ first_series bytes
+    → back ≡ drop (length (first_series bytes)) bytes
+    → series_from offset bytes ≡ series offset front ∷ series_from (offset + length front) back
+series_split offset bytes front back some is rest =
+    series_next offset bytes (omega (arith, eqb-false (length bytes) 0 (sym some)))
+    ∙ sym (λ k. series offset (is k) ∷ series_from (offset + length (is k)) (rest k))
 
-  pub end_within : end ≤ length bytes
-  end_within = omega (arith, first_within (drop at bytes), length-drop at bytes)
-
-  next : subidentifiers_from at (drop at bytes) ≡ number_in (series at (first_series (drop at bytes))) ∷ subidentifiers_from end (drop end bytes)
-  next =
-      let left : drop (length (first_series (drop at bytes))) (drop at bytes) ≡ drop end bytes =
-      drop-drop (length (first_series (drop at bytes))) at bytes ∙ ap (λ n. drop n bytes) (sym ends) in
-      subs_next at (drop at bytes) (omega (arith, length-drop at bytes))
-      ∙ (λ k. number_in (series at (first_series (drop at bytes))) ∷ subidentifiers_from (sym ends k) (left k))
-
-  pub arcs_next : (done : List Number)
-      → (done ++ arc_number at (value_of (first_series (drop at bytes))) ∷ []) ++ map later_arc (subidentifiers_from end (drop end bytes)) ≡ done ++ map later_arc (subidentifiers_from at (drop at bytes))
-  arcs_next done = append_assoc done _ _ ∙ ap (λ l. done ++ map later_arc l) (sym next)
-
-  abbrev value : ℕ
-  value = value_of (first_series (drop at bytes))
-
-  pub arcs_first : arc_number at (root_in value) ∷ (arc_number at (second_in value) ∷ map later_arc (subidentifiers_from end (drop end bytes))) ≡ arc_numbers (subidentifiers_from at (drop at bytes))
-  arcs_first = ap arc_numbers (sym next)
-
-pub arcs_end : (bytes : List ℕ) (at : ℕ) (done : List Number) → length bytes ≤ at
-    → done ++ map later_arc (subidentifiers_from at (drop at bytes)) ≡ done
+pub series_none : (offset : ℕ) (bytes : List ℕ) → true ≡ eqb (length bytes) 0 → series_from offset bytes ≡ []
 unfolding series_from
-arcs_end bytes at done past =
-    ap (λ l. done ++ map later_arc l) (at_drop_all (subidentifiers_from at) bytes at past) ∙ append-nil done
+series_none offset [] none = refl
+series_none offset (byte ∷ rest) none = absurd (omega (arith, eqb-true (length (byte ∷ rest)) 0 (sym none)))
+
+-- a subidentifier as the code holds it
+abbrev pub series_of : Subidentifier → Series
+series_of subidentifier = series subidentifier.offset subidentifier.bytes.now
+
+abbrev pub first_is_80 : Series → Bool
+first_is_80 series = eqb (get_or series.bytes 0 0) more
+
+-- the search for the first number with a leading zero is one for the first series that begins with 80
+pub padded_found : (series : List Series)
+    → first_at (λ number. number.padded) (map number_in series) ≡ option_map (λ found. found.offset) (find first_is_80 series)
+unfolding first_at
+padded_found [] = refl
+padded_found (first ∷ others) = let rest = padded_found others in grind (arith, nat_tests)
+
+pub offset_of : (found : Option Subidentifier)
+    → option_map (λ subidentifier. subidentifier.offset) found ≡ option_map (λ series. series.offset) (option_map series_of found)
+offset_of None = refl
+offset_of (Some subidentifier) = refl
+
+-- the arcs that the first series stands for, and those of the others; then one more series at a time, up to the end
+module _ (at : ℕ) (bytes : List ℕ) (all rest : List Series) (is : all ≡ series at bytes ∷ rest) where
+  pub arcs_first : arc_number at (root_in (value_of bytes)) ∷ (arc_number at (second_in (value_of bytes)) ∷ map later_arc (map number_in rest)) ≡ arc_numbers (map number_in all)
+  arcs_first = ap (λ l. arc_numbers (map number_in l)) (sym is)
+
+  pub arcs_more : (done : List Number)
+      → (done ++ arc_number at (value_of bytes) ∷ []) ++ map later_arc (map number_in rest) ≡ done ++ map later_arc (map number_in all)
+  arcs_more done = append_assoc done _ _ ∙ ap (λ l. done ++ map later_arc (map number_in l)) (sym is)
+
+pub arcs_end : (done : List Number) (all : List Series) → all ≡ [] → done ++ map later_arc (map number_in all) ≡ done
+arcs_end done all none = ap (λ l. done ++ map later_arc (map number_in l)) none ∙ append-nil done

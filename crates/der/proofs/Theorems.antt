@@ -51,6 +51,19 @@ exactly bytes before answer arcs each value after = (λ count e. to count (read_
     from : (others rest : List ℕ) → Encodes bytes others rest → (answer ≡ Ok (length (der_bytes others))) × (arcs ≡ others)
     from others rest h = (value ∙ encoded_taken bytes others rest h, after ∙ ap (λ r. filled r before) (encoded_read bytes others rest h))
 
+-- what a reader that fills the caller's identifier owes of a reading
+pub record Tells (bytes before : List ℕ) (answer : Result ℕ Fault) (arcs : List ℕ) : Type 0 where
+  pub value : answer ≡ taken bytes
+  pub after : arcs ≡ filled (read_der bytes) before
+  pub exact : Exactly bytes answer arcs
+
+pub reading_told : (bytes before : List ℕ) (answer : Result ℕ Fault) (arcs : List ℕ) (reading : Result (List ℕ) Fault) → Bytes bytes
+    → read_der bytes ≡ reading → answer ≡ tells bytes reading → arcs ≡ filled reading before → Tells bytes before answer arcs
+reading_told bytes before answer arcs reading each is answered filled_with =
+    let value = answered ∙ sym (ap (tells bytes) is) in
+    let after = filled_with ∙ sym (ap (λ r. filled r before) is) in
+    record { value = value; after = after; exact = exactly bytes before answer arcs each value after }
+
 -- what a count and a rest owe that are those of the reading
 pub splits : (bytes : List ℕ) (count : ℕ) (rest : List ℕ) → Bytes bytes → count ≡ result_unwrap_or (taken bytes) 0
     → rest ≡ drop count bytes → Splits bytes count rest

@@ -1,17 +1,12 @@
 // Numbers in base 128.
-ghost use Rattle.std.specs.Prelude.{◌≡◌, ◌-◌, ◌^◌, ◌≤◌, min, ◌++◌, length, drop};
+ghost use Rattle.std.specs.Prelude.{◌≡◌, ◌+◌, ◌-◌, ◌^◌, ◌≤◌, min, length, drop};
+ghost use Rattle.oid.specs.Pages.{at_front};
 ghost use Rattle.der.specs.Base128.{is_last, base128, first_series, value_of};
+
+use digits::{digits, with_digit};
 
 // What is added to each byte but the last.
 const MORE: u8 = 0x80;
-
-// The number at the front of some bytes: its value, or the largest of 64 bits where it is larger, and how many bytes
-// it has.
-#[derive(Clone, Copy)]
-pub(crate) struct Subidentifier {
-    pub(crate) value: u64,
-    pub(crate) length: usize,
-}
 
 // Whether nothing is added to a byte, so that it ends a number.
 pub(crate) fn is_last(byte: u8) -> bool
@@ -20,55 +15,46 @@ pub(crate) fn is_last(byte: u8) -> bool
     byte < MORE
 }
 
-// Reads the number at the front.
-pub(crate) fn read_base128(bytes: &[u8]) -> Subidentifier
-    ensures value { result.value ≡ min (value_of (first_series bytes.now)) (2 ^ 64 - 1) }
-    ensures len { result.length ≡ length (first_series bytes.now) }
+// The bytes at the front that belong to one number, up to the first that can be a last byte, or all; and those behind.
+pub(crate) fn split_series(bytes: &[u8]) -> (&[u8], &[u8])
+    ensures front { result.0.now ≡ first_series bytes.now }
+    ensures back { result.1.now ≡ drop (length (first_series bytes.now)) bytes.now }
+    ensures lengths { length result.0.now + length result.1.now ≡ length bytes.now }
 {
-    let mut value: u64 = 0;
-    for i in 0..bytes.len() {
-        let digit = u64::from(bytes[i] % MORE);
-        value = value.saturating_mul(128).saturating_add(digit);
-        if is_last(bytes[i]) {
-            return Subidentifier {
-                value,
-                length: i + 1,
-            };
-        }
+    match bytes.iter().position(|byte| is_last(*byte)) {
+        Some(last) => bytes.split_at(last + 1),
+        None => (bytes, &[]),
     }
-    Subidentifier {
-        value,
-        length: bytes.len(),
-    }
+}
+
+// The number that some bytes stand for, or the largest of 64 bits where it is larger.
+pub(crate) fn read_base128(bytes: &[u8]) -> u64
+    ensures { result ≡ min (value_of bytes.now) (2 ^ 64 - 1) }
+{
+    bytes
+        .iter()
+        .fold(0, |value, byte| with_digit::<128>(value, *byte % MORE))
 }
 
 // How many bytes a number has.
+#[tactic(auto, using(crate::proofs::Digits::length_digits))]
 pub(crate) fn base128_length(number: u64) -> usize
     ensures { result ≡ length (base128 number) }
 {
-    let mut count = 1;
-    let mut rest = number / 128;
-    while rest > 0 {
-        rest /= 128;
-        count += 1;
-    }
-    count
+    digits::<128>(number).len()
 }
 
 // Writes a number at the front of a page that has room for it, and answers how many bytes.
+#[tactic(auto, using(crate::proofs::Digits::length_digits, crate::proofs::Digits::some_bytes))]
 pub(crate) fn write_base128(number: u64, page: &mut [u8]) -> usize
     requires { length (base128 number) ≤ length page.old }
     ensures value { result ≡ length (base128 number) }
-    ensures after { page.new ≡ base128 number ++ drop (length (base128 number)) page.old }
+    ensures after { page.new ≡ at_front (base128 number) page.old }
 {
-    let count = base128_length(number);
-    let mut at = count - 1;
-    page[at] = (number % 128) as u8;
-    let mut rest = number / 128;
-    while rest > 0 {
-        at -= 1;
-        page[at] = MORE + (rest % 128) as u8;
-        rest /= 128;
+    let digits = digits::<128>(number);
+    let last = digits.len() - 1;
+    for (at, digit) in digits.iter().enumerate() {
+        page[at] = if at < last { MORE + *digit } else { *digit };
     }
-    count
+    digits.len()
 }

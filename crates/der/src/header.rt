@@ -1,7 +1,7 @@
 // What stands before the contents: the tag and the length.
-ghost use Rattle.std.specs.Prelude.{◌≡◌, ◌+◌, ◌≤◌, length, IfOk, slice_index};
+ghost use Rattle.std.specs.Prelude.{◌≡◌, ◌+◌, ◌<◌, length, IfOk};
 ghost use Rattle.std.specs.Result.{result_err};
-ghost use Rattle.der.specs.Header.{header_length, taken_in, bad_header};
+ghost use Rattle.der.specs.Header.{header_length, taken_in, contents_in, bad_header};
 
 use oid::{Fault, Refusal};
 
@@ -9,33 +9,24 @@ use oid::{Fault, Refusal};
 pub(crate) const TAG: u8 = 0x06;
 
 // How many bytes of contents there are at most, so that one byte tells their length.
-pub(crate) const MOST_CONTENTS: usize = 0x7F;
+const MOST_CONTENTS: u8 = 0x7F;
 
 // How many bytes stand before the contents.
 pub(crate) const HEADER_LENGTH: usize = 2;
 
-// Where the contents end, which are some bytes at least and lie within these; or why the header is no good.
-pub(crate) fn contents_end(bytes: &[u8]) -> Result<usize, Fault>
+// The contents, which are some bytes at least; or why the header is no good.
+#[tactic(auto, using(std::proofs::lemmas::Bool::Decides::nat_tests), unfolding(crate::specs::Header::bad_header))]
+pub(crate) fn contents_in(bytes: &[u8]) -> Result<&[u8], Fault>
     ensures cases { result_err result ≡ bad_header bytes.now }
-    ensures value { IfOk result (λ end. (end ≡ taken_in bytes.now) × (header_length + 1 ≤ end) × (end ≤ length bytes.now)) }
+    ensures value { IfOk result (λ contents. contents.now ≡ contents_in bytes.now) }
+    ensures told { IfOk result (λ contents. header_length + length contents.now ≡ taken_in bytes.now) }
+    ensures some { IfOk result (λ contents. 0 < length contents.now) }
 {
-    if byte_at(bytes, 0) != TAG {
-        return Err(Refusal::Header.at(0));
-    }
-    let length = usize::from(byte_at(bytes, 1));
-    if length == 0 || length > MOST_CONTENTS || length + HEADER_LENGTH > bytes.len() {
-        return Err(Refusal::Header.at(1));
-    }
-    Ok(HEADER_LENGTH + length)
-}
-
-// The byte at an offset; one that is absent counts as 0.
-fn byte_at(bytes: &[u8], offset: usize) -> u8
-    ensures { result ≡ slice_index bytes.now offset }
-{
-    if offset < bytes.len() {
-        bytes[offset]
-    } else {
-        0
+    match bytes {
+        [TAG, length @ 1..=MOST_CONTENTS, rest @ ..] => rest
+            .get(..usize::from(*length))
+            .ok_or(Refusal::Header.at(1)),
+        [TAG, ..] => Err(Refusal::Header.at(1)),
+        _ => Err(Refusal::Header.at(0)),
     }
 }

@@ -3,7 +3,7 @@
 
 ghost use Rattle.std.specs.Prelude.{◌≡◌, ◌+◌, ◌-◌, ◌*◌, ◌^◌, ◌≤◌, ◌++◌, max, min, length};
 ghost use Rattle.arrayvec.specs.ArrayVec.{array_vec_len};
-ghost use Rattle.digits.specs.Numerals.{numeral};
+ghost use Rattle.digits.specs.Digits.{digits_in};
 
 use arrayvec::ArrayVec;
 
@@ -14,9 +14,9 @@ mod tests;
 pub const MOST_DIGITS: usize = 64;
 
 // The digits of a number, the highest first: one at least. A base below 2 counts as 2.
-#[tactic(auto, using(crate::proofs::Numerals::length_most))]
+#[tactic(auto, using(crate::proofs::Steps::length_most))]
 pub fn digits<const BASE: u8>(number: u64) -> ArrayVec<u8, MOST_DIGITS>
-    ensures { result.items ≡ numeral (max BASE 2) number }
+    ensures { result.items ≡ digits_in (max BASE 2) number }
 {
     let mut digits = ArrayVec::new();
     push_digits(number, BASE.max(2), &mut digits);
@@ -24,11 +24,11 @@ pub fn digits<const BASE: u8>(number: u64) -> ArrayVec<u8, MOST_DIGITS>
 }
 
 // Puts the digits of a number behind others, where there is room for them.
-#[tactic(auto, using(crate::proofs::Numerals::numeral_below, crate::proofs::Numerals::pushed, crate::proofs::Numerals::length_step, crate::proofs::Numerals::room_left))]
+#[tactic(auto, using(crate::proofs::Steps::one_digit, crate::proofs::Steps::pushed, crate::proofs::Steps::length_step, crate::proofs::Steps::room_left))]
 fn push_digits(number: u64, base: u8, digits: &mut ArrayVec<u8, MOST_DIGITS>)
     requires base { 2 ≤ base }
-    requires room { array_vec_len digits.old + length (numeral base number) ≤ 64 }
-    ensures { digits.new.items ≡ digits.old.items ++ numeral base number }
+    requires room { array_vec_len digits.old + length (digits_in base number) ≤ 64 }
+    ensures { digits.new.items ≡ digits.old.items ++ digits_in base number }
 {
     if number < u64::from(base) {
         digits.push(number as u8);

@@ -1,10 +1,11 @@
-pub mod Walks
+pub mod Numerals
 pub mod Reading
 pub mod Digits
+pub mod Fronts
 pub mod Texts
 pub mod Spelling
+pub mod Parts
 pub mod Accepting
-pub mod Accepted
 pub mod Moving
 pub mod Theorems
 pub mod Misfits

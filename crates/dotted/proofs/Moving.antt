@@ -2,6 +2,7 @@
 use Rattle.std.proofs.Common.{◌≡◌, ℕ, ◌+◌, ◌≤◌, Bool, true, false, cond, ltb, leb, List, [], ◌∷◌, map, length, get_or, Some, None, Ok, Option, Result, sym, refl, ap, ◌∙◌, arith}
 use Rattle.std.specs.Option as options
 use Rattle.std.proofs.lemmas.List.{length-map, get_or-map}
+use Rattle.std.proofs.lemmas.Simd.{map-map}
 use Rattle.std.proofs.lemmas.Bool.{and_parts, leb-true, cond_both}
 use Rattle.oid.specs.Numbers.{Number, values, offsets, too_large, first_at, leading_zeros, large_numbers, wrong_count, wrong_start, read_numbers}
 use Rattle.oid.specs.Refusals.{ask, fault_at}
@@ -67,17 +68,15 @@ module _ (bytes : ℕ) where
           ∙ longer_moved offset byte (pieces_from (offset + 1) rest)
 
   numbered : (pieces : List Piece) → map number_in (map moved_piece pieces) ≡ map moved_number (map number_in pieces)
-  numbered [] = refl
-  numbered (piece ∷ pieces) = ap (λ l. moved_number (number_in piece) ∷ l) (numbered pieces)
+  numbered pieces = map-map number_in moved_piece pieces ∙ sym (map-map moved_number number_in pieces)
 
   -- the questions about them
   values_moved : (numbers : List Number) → values (map moved_number numbers) ≡ values numbers
-  values_moved [] = refl
-  values_moved (number ∷ numbers) = ap (λ l. number.value ∷ l) (values_moved numbers)
+  values_moved numbers = map-map (λ number. number.value) moved_number numbers
 
   offsets_moved : (numbers : List Number) → offsets (map moved_number numbers) ≡ map later (offsets numbers)
-  offsets_moved [] = refl
-  offsets_moved (number ∷ numbers) = ap (λ l. later number.offset ∷ l) (offsets_moved numbers)
+  offsets_moved numbers =
+      map-map (λ number. number.offset) moved_number numbers ∙ sym (map-map later (λ number. number.offset) numbers)
 
   picked_moved : (v : Bool) (offset : ℕ) (o p : Option ℕ) → o ≡ options.option_map later p
       → cond v (Some (later offset)) o ≡ options.option_map later (cond v (Some offset) p)

@@ -1,7 +1,8 @@
 -- The text of an identifier: its parts, and how long it can be.
-use Rattle.std.proofs.Common.{◌≡◌, ℕ, ◌+◌, ◌*◌, ◌^◌, ◌<◌, ◌≤◌, true, List, [], ◌∷◌, ◌++◌, length, get_or, drop, decimal, ap, ◌∙◌, arith}
-use Rattle.std.specs.List.{flat_map}
-use Rattle.std.proofs.lemmas.List.{at_drop_more, at_drop_all, length-append}
+use Rattle.std.proofs.Common.{◌≡◌, ℕ, suc, ◌+◌, ◌*◌, ◌^◌, ◌<◌, ◌≤◌, true, List, [], ◌∷◌, ◌++◌, length, get_or, drop, decimal, sym, ◌∙◌, arith}
+use Rattle.std.specs.List.{flat_map, sum_by}
+use Rattle.std.proofs.lemmas.List.{at_drop_more, length-append}
+use Rattle.std.proofs.lemmas.List.Concat.{length-flat_map}
 use Rattle.std.proofs.lemmas.Bool.{and_parts, leb-true}
 use Rattle.oid.specs.Arcs.{arc_limit, is_arc}
 use Rattle.oid.specs.Tree.{all_arcs, is_identifier}
@@ -21,9 +22,6 @@ pub later_more : (arcs : List ℕ) (i : ℕ) → i < length arcs
     → later_arcs (drop i arcs) ≡ after_dot (get_or arcs i 0) ++ later_arcs (drop (i + 1) arcs)
 later_more arcs i h = at_drop_more later_arcs arcs i 0 h
 
-pub later_none : (arcs : List ℕ) (i : ℕ) → length arcs ≤ i → later_arcs (drop i arcs) ≡ []
-later_none arcs i h = at_drop_all later_arcs arcs i h
-
 pub arc_fits : (n : ℕ) → is_arc n ≡ true → n < 2 ^ 64
 arc_fits n h = omega (arith, limit_room, leb-true n arc_limit h)
 
@@ -34,6 +32,21 @@ later_most (arc ∷ arcs) h =
     let parts = and_parts (is_arc arc) (all_arcs arcs) h in
     omega (arith, length-append (after_dot arc) (later_arcs arcs), length_most arc (arc_fits arc parts.0), later_most arcs parts.1)
 
+-- a dot with each arc is one more than the text has
+pub length_with_dots : (arcs : List ℕ) → is_identifier arcs ≡ true
+    → sum_by (λ arc. 1 + length (decimal arc)) arcs ≡ 1 + length (dotted_text arcs)
+unfolding dotted_text
+length_with_dots arcs h = go arcs (keeps arcs h).long
+  where
+    one : (n : ℕ) → suc n ≡ 1 + n
+    one n = omega arith
+
+    go : (list : List ℕ) → 2 ≤ length list → sum_by (λ arc. 1 + length (decimal arc)) list ≡ 1 + length (dotted_text list)
+    go [] long = absurd (omega arith)
+    go (arc ∷ list) long =
+        (λ k. sum_by (λ number. sym (one (length (decimal number))) k) (arc ∷ list))
+        ∙ sym (length-flat_map after_dot (arc ∷ list)) ∙ one (length (decimal arc ++ later_arcs list))
+
 pub text_most : (arcs : List ℕ) → is_identifier arcs ≡ true → length (dotted_text arcs) ≤ text_limit
 unfolding dotted_text
 text_most arcs h = go arcs (keeps arcs h)
@@ -41,20 +54,3 @@ text_most arcs h = go arcs (keeps arcs h)
     go : (list : List ℕ) → Keeps list → length (dotted_text list) ≤ text_limit
     go [] k = omega arith
     go (arc ∷ list) k = omega (arith, k.short, length-append (decimal arc) (later_arcs list), length-append (after_dot arc) (later_arcs list), later_most (arc ∷ list) k.each)
-
-pub some_arcs : (arcs : List ℕ) → is_identifier arcs ≡ true → 2 ≤ length arcs
-some_arcs arcs h = (keeps arcs h).long
-
--- the lengths of the parts
-pub length_first : (arcs : List ℕ) → 0 < length arcs
-    → length (dotted_text arcs) ≡ length (decimal (get_or arcs 0 0)) + length (later_arcs (drop 1 arcs))
-length_first arcs h = ap length (text_first arcs h) ∙ length-append (decimal (get_or arcs 0 0)) (later_arcs (drop 1 arcs))
-
-pub length_more : (arcs : List ℕ) (i : ℕ) → i < length arcs
-    → length (later_arcs (drop i arcs)) ≡ 1 + length (decimal (get_or arcs i 0)) + length (later_arcs (drop (i + 1) arcs))
-length_more arcs i h =
-    let e = ap length (later_more arcs i h) ∙ length-append (after_dot (get_or arcs i 0)) (later_arcs (drop (i + 1) arcs)) in
-    omega arith
-
-pub length_none : (arcs : List ℕ) (i : ℕ) → length arcs ≤ i → length (later_arcs (drop i arcs)) ≡ 0
-length_none arcs i h = ap length (later_none arcs i h)

@@ -18,8 +18,7 @@ use Rattle.dotted.specs.Pieces.{pieces_from}
 use Rattle.dotted.specs.Prefix.{prefix, prefix_length}
 use Rattle.dotted.specs.Reading.{read_from, read_dotted}
 use Rattle.dotted.specs.Writing.{dotted_text}
-use Rattle.dotted.proofs.Accepted.{text_read}
-use Rattle.dotted.proofs.Accepting.{read_text}
+use Rattle.dotted.proofs.Accepting.{read_text, text_read}
 use Rattle.dotted.proofs.Misfits.{first_misfit}
 use Rattle.dotted.proofs.Moving.{read_moved}
 use Rattle.dotted.proofs.Reading.{read_malformed, read_formed}
@@ -74,31 +73,36 @@ malformed text at e = go (faulty (prefix_length text) (drop (prefix_length text)
         first_misfit text (prefix_length text) (prefix_within text) at (same ∙ ap Some here)
     go None same = absurd (never_malformed _ at (sym (read_formed text (prefix_length text) refl (sym same)) ∙ e))
 
--- what a reader owes that answers as the reading says
-module _ (text before : List ℕ) (answer : Result (Unit {0}) Fault) (arcs : List ℕ) (value : answer ≡ answered (read_dotted text)) (after : arcs ≡ filled (read_dotted text) before) where
-  exactly : Exactly text answer arcs
-  exactly = (λ e. to (read_dotted text) refl (sym value ∙ e), λ others writes. from others ((accepts text others).1 writes))
-    where
-      to : (reading : Result (List ℕ) Fault) → read_dotted text ≡ reading → answered reading ≡ Ok tt → Writes text arcs
-      to (Ok found) same e = subst (Writes text) (sym (after ∙ ap (λ r. filled r before) same)) ((accepts text found).0 same)
-      to (Err fault) same e = let z : ◌≡◌ {A = ℕ} 0 1 = cc in absurd (omega arith)
+-- what a reader owes of a text: with `before` in the caller's identifier it gave `answer`, and left `arcs` there
+pub record Owed (text before : List ℕ) (answer : Result (Unit {0}) Fault) (arcs : List ℕ) : Type 0 where
+  pub value : answer ≡ answered (read_dotted text)
+  pub after : arcs ≡ filled (read_dotted text) before
+  pub exactly : Exactly text answer arcs
+  pub prefixed : Prefixed text answer
+  pub first : MalformedAtFirst text answer
 
-      from : (others : List ℕ) → read_dotted text ≡ Ok others → (answer ≡ Ok tt) × (arcs ≡ others)
-      from others same = (value ∙ ap answered same, after ∙ ap (λ r. filled r before) same)
+-- it owes nothing more if its answer is the reading's
+pub owed : (text before : List ℕ) (answer : Result (Unit {0}) Fault) (arcs : List ℕ) (reading : Result (List ℕ) Fault)
+    → read_dotted text ≡ reading → answer ≡ answered reading → arcs ≡ filled reading before
+    → Owed text before answer arcs
+owed text before answer arcs reading is value after = record {
+  value = value ∙ sym (ap answered is);
+  after = after ∙ sym (ap (λ r. filled r before) is);
+  exactly = (λ e. to reading is after (sym value ∙ e), λ others writes. from others (sym is ∙ (accepts text others).1 writes));
+  prefixed = λ rest p e. value ∙ ap answered (sym is ∙ ap read_dotted e ∙ prefix_moves_faults rest p);
+  first = λ at e. malformed text at (is ∙ told reading at (sym value ∙ e));
+}
+  where
+    to : (r : Result (List ℕ) Fault) → read_dotted text ≡ r → arcs ≡ filled r before → answered r ≡ Ok tt → Writes text arcs
+    to (Ok found) same left e = subst (Writes text) (sym left) ((accepts text found).0 same)
+    to (Err fault) same left e = absurd (cc)
 
-  prefixed : Prefixed text answer
-  prefixed rest p e = value ∙ ap answered (ap read_dotted e ∙ prefix_moves_faults rest p)
+    from : (others : List ℕ) → reading ≡ Ok others → (answer ≡ Ok tt) × (arcs ≡ others)
+    from others same = (value ∙ ap answered same, after ∙ ap (λ r. filled r before) same)
 
-  malformed_at_first : MalformedAtFirst text answer
-  malformed_at_first at e = malformed text at (told (read_dotted text) (sym value ∙ e))
-    where
-      told : (reading : Result (List ℕ) Fault) → answered reading ≡ Err (fault_at NotDotted at)
-          → reading ≡ Err (fault_at NotDotted at)
-      told (Ok found) h = let z : ◌≡◌ {A = ℕ} 0 1 = cc in absurd (omega arith)
-      told (Err fault) h = cc
-
-  pub reader_laws : Exactly text answer arcs × Prefixed text answer × MalformedAtFirst text answer
-  reader_laws = (exactly, prefixed, malformed_at_first)
+    told : (r : Result (List ℕ) Fault) (at : ℕ) → answered r ≡ Err (fault_at NotDotted at) → r ≡ Err (fault_at NotDotted at)
+    told (Ok found) at e = absurd (cc)
+    told (Err fault) at e = cc
 
 -- a text without a prefix that is read as some arcs is their text
 pub written_as : (text arcs : List ℕ) → prefix_length text ≡ 0 → read_dotted text ≡ Ok arcs → text ≡ dotted_text arcs

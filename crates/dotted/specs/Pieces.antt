@@ -33,8 +33,3 @@ number_in piece = record { offset = piece.offset; value = decimal_value piece.di
 
 abbrev pub numbers_from : ℕ → List ℕ → List Number
 numbers_from offset text = map number_in (pieces_from offset text)
-
--- the bytes of the first piece: those before the first dot, or all
-unfoldable pub before_dot : List ℕ → List ℕ
-before_dot [] = []
-before_dot (byte ∷ rest) = cond (is_dot byte) [] (byte ∷ before_dot rest)

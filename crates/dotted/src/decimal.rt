@@ -1,40 +1,28 @@
 // The writer of one number.
-ghost use Rattle.std.specs.Prelude.{◌≡◌, ◌+◌, ◌≤◌, ◌++◌, length, drop, decimal};
+ghost use Rattle.std.specs.Prelude.{◌≡◌, ◌≤◌, length, decimal};
+ghost use Rattle.oid.specs.Pages.{at_front};
+
+use digits::digits;
 
 // How many decimal digits a number has.
+#[tactic(auto, using(crate::proofs::Digits::length_digits, crate::proofs::Digits::length_most))]
 pub(crate) fn digit_count(number: u64) -> usize
-    ensures { result ≡ length (decimal number) }
+    ensures value { result ≡ length (decimal number) }
+    ensures most { result ≤ 20 }
 {
-    let mut count = 1;
-    let mut rest = number;
-    while rest >= 10 {
-        rest /= 10;
-        count += 1;
-    }
-    count
+    digits::<10>(number).len()
 }
 
 // Writes a number in decimal at the front of a page that has room for it, and answers how many digits.
+#[tactic(auto, using(crate::proofs::Digits::length_digits, digits::proofs::Steps::digit_below))]
 pub(crate) fn write_number(number: u64, page: &mut [u8]) -> usize
     requires { length (decimal number) ≤ length page.old }
     ensures value { result ≡ length (decimal number) }
-    ensures after { page.new ≡ decimal number ++ drop (length (decimal number)) page.old }
+    ensures after { page.new ≡ at_front (decimal number) page.old }
 {
-    let count = digit_count(number);
-    let mut rest = number;
-    let mut at = count - 1;
-    while rest >= 10 {
-        page[at] = digit(rest % 10);
-        rest /= 10;
-        at -= 1;
+    let digits = digits::<10>(number);
+    for (place, digit) in digits.iter().enumerate() {
+        page[place] = b'0' + *digit;
     }
-    page[at] = digit(rest);
-    count
-}
-
-fn digit(value: u64) -> u8
-    requires { value ≤ 9 }
-    ensures { result ≡ 48 + value }
-{
-    b'0' + value as u8
+    digits.len()
 }

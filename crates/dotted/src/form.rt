@@ -1,36 +1,31 @@
 // The form of dotted text.
-ghost use Rattle.std.specs.Prelude.{◌≡◌, ◌+◌, ◌<◌, ◌≤◌, length, drop, slice_index};
-ghost use Rattle.dotted.specs.Form.{faulty, may_stand, begins_with_digit};
+ghost use Rattle.std.specs.Prelude.{◌≡◌, ◌<◌, length, drop, slice_index};
+ghost use Rattle.dotted.specs.Form.{faulty, is_digit};
+ghost use Rattle.dotted.specs.Laws.{fits_at};
 
 // The offset of the first byte at fault from `start` on, or `start` where nothing follows; none where the
 // text is well formed.
 pub(crate) fn first_fault(text: &[u8], start: usize) -> Option<usize>
-    requires { start ≤ length text.now }
     ensures { result ≡ faulty start (drop start text.now) }
 {
-    if start == text.len() {
+    if start >= text.len() {
         return Some(start);
     }
-    let mut after_digit = false;
-    for i in start..text.len() {
-        if !may_stand(text, i, after_digit) {
-            return Some(i);
-        }
-        after_digit = text[i].is_ascii_digit();
-    }
-    None
+    (start..text.len()).find(|at| !fits_at(text, start, *at))
 }
 
-// Whether the byte at `i` is a digit, or a dot directly between two digits.
-fn may_stand(text: &[u8], i: usize, after_digit: bool) -> bool
-    requires { i < length text.now }
-    ensures { result ≡ may_stand after_digit (slice_index text.now i) (drop (i + 1) text.now) }
+// Whether the byte there is a digit, or a dot directly between two digits that do not stand before `start`.
+fn fits_at(text: &[u8], start: usize, at: usize) -> bool
+    requires { at < length text.now }
+    ensures { result ≡ fits_at text.now start at }
 {
-    text[i].is_ascii_digit() || text[i] == b'.' && after_digit && digit_at(text, i + 1)
+    digit_at(text, at)
+        || text[at] == b'.' && at > start && digit_at(text, at - 1) && digit_at(text, at + 1)
 }
 
-fn digit_at(text: &[u8], i: usize) -> bool
-    ensures { result ≡ begins_with_digit (drop i text.now) }
+// Whether a digit stands there.
+fn digit_at(text: &[u8], at: usize) -> bool
+    ensures { result ≡ is_digit (slice_index text.now at) }
 {
-    i < text.len() && text[i].is_ascii_digit()
+    text.get(at).is_some_and(|byte| byte.is_ascii_digit())
 }

@@ -2,23 +2,17 @@
 ghost use Rattle.dotted.specs.Laws.{OneText, PrefixMovesFaults, Examples};
 
 // Two texts without a prefix that read to one identifier are equal.
-pub fn one_text_for_each() -> u8
+pub fn one_text_for_each()
     ensures { OneText }
-{
-    0
-}
+{}
 
 // The prefix before a text that does not itself begin with it changes no answer, except that faults at a byte are
 // further on.
-pub fn prefix_moves_faults() -> u8
+pub fn prefix_moves_faults()
     ensures { PrefixMovesFaults }
-{
-    0
-}
+{}
 
 // What the rules say of three texts.
-pub fn worked_examples() -> u8
+pub fn worked_examples()
     ensures { Examples }
-{
-    0
-}
+{}

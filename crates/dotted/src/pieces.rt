@@ -1,9 +1,14 @@
 // The numbers of dotted text, piece by piece.
-ghost use Rattle.std.specs.Prelude.{◌≡◌, ℕ, ◌+◌, ◌-◌, ◌*◌, ◌≤◌, length, drop};
+ghost use Rattle.std.specs.Prelude.{◌≡◌, ◌≤◌, length, drop};
+ghost use Rattle.std.specs.Iterator.{YieldsFirst, item_count};
+ghost use Rattle.std.specs.List.{before_first};
 ghost use Rattle.oid.specs.Arcs.{arc_of};
 ghost use Rattle.oid.specs.Collected.{Collected, numeral_of};
-ghost use Rattle.dotted.specs.Pieces.{decimal_value, leading_zero, before_dot, number_in, numbers_from};
+ghost use Rattle.dotted.specs.Form.{is_dot};
+ghost use Rattle.dotted.specs.Pieces.{decimal_value, leading_zero, number_in, numbers_from};
+ghost use Rattle.dotted.specs.Numerals.{numerals_left};
 
+use digits::with_digit;
 use oid::arc::arc_of;
 use oid::{Arc, Collector, Numeral};
 
@@ -12,31 +17,42 @@ pub(crate) fn collect_numbers(text: &[u8], start: usize) -> Collector
     requires { start ≤ length text.now }
     ensures { Collected result (numbers_from start (drop start text.now)) }
 {
+    let numerals = Numerals { text, place: start };
     let mut collector = Collector::new();
-    let mut at = start;
-    loop {
-        let end = piece_end(text, at);
-        collector.add(numeral_in(&text[at..end], at));
-        if end == text.len() {
-            break;
-        }
-        at = end + 1;
+    for numeral in numerals {
+        collector.add(numeral);
     }
     collector
 }
 
-// Where the piece that begins at `at` ends: at the next dot, or at the text's end.
-fn piece_end(text: &[u8], at: usize) -> usize
-    requires { at ≤ length text.now }
-    ensures value { result ≡ at + length (before_dot (drop at text.now)) }
-    ensures bound { result ≤ length text.now }
-{
-    for i in at..text.len() {
-        if text[i] == b'.' {
-            return i;
-        }
+// The numbers that a text writes from a place on. Behind the last one the place lies past the text's end.
+#[derive(Drop)]
+struct Numerals<'a> {
+    text: &'a [u8],
+    place: usize,
+}
+
+impl Iterator for Numerals<'_> {
+    type Item = Numeral;
+
+    ghost next_gives = { YieldsFirst numerals_left };
+
+    ghost remaining = { item_count numerals_left };
+
+    fn next(&mut self) -> Option<Numeral> {
+        let piece = first_piece(self.text.get(self.place..)?);
+        let numeral = numeral_in(piece, self.place);
+        self.place += piece.len() + 1;
+        Some(numeral)
     }
-    text.len()
+}
+
+// The bytes before the first dot, or all of them.
+fn first_piece(text: &[u8]) -> &[u8]
+    ensures { result.now ≡ before_first is_dot text.now }
+{
+    let dot = text.iter().position(|byte| *byte == b'.');
+    &text[..dot.unwrap_or(text.len())]
 }
 
 // The number that a piece writes, which begins at `offset`.
@@ -54,20 +70,10 @@ fn numeral_in(digits: &[u8], offset: usize) -> Numeral
 fn arc_in(digits: &[u8]) -> Option<Arc>
     ensures { result ≡ arc_of (decimal_value digits.now) }
 {
-    let mut arc = Some(0);
-    for digit in digits {
-        arc = with_digit(arc, *digit);
-    }
-    arc
-}
-
-// The arc with one more decimal digit behind it.
-fn with_digit(arc: Option<Arc>, digit: u8) -> Option<Arc>
-    ensures { (n : ℕ) → arc ≡ arc_of n → result ≡ arc_of (n * 10 + (digit - 48)) }
-{
-    let value = u64::from(arc?);
-    let units = u64::from(digit.saturating_sub(b'0'));
-    arc_of(value.saturating_mul(10).saturating_add(units))
+    let number = digits.iter().fold(0, |value, digit| {
+        with_digit::<10>(value, digit.saturating_sub(b'0'))
+    });
+    arc_of(number)
 }
 
 // Whether there are two or more digits of which the first is 0.

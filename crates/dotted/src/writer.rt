@@ -1,13 +1,12 @@
 // The writer of dotted text.
-ghost use Rattle.std.specs.Prelude.{◌≡◌, ◌+◌, ◌≤◌, true, length, is_ok, IfOk, decimal};
+ghost use Rattle.std.specs.Prelude.{◌≡◌, ◌+◌, ◌≤◌, true, length, is_ok, IfOk};
 ghost use Rattle.oid.specs.Meaning.{arcs_of};
-ghost use Rattle.oid.specs.Pages.{placed, new_end, page_after};
-ghost use Rattle.oid.specs.Tree.{is_identifier};
+ghost use Rattle.oid.specs.Pages.{at_front, new_end, page_after};
 ghost use Rattle.dotted.specs.Laws.{ReadsBack};
 ghost use Rattle.dotted.specs.Writing.{after_dot, dotted_text, text_limit};
 
 use crate::decimal::{digit_count, write_number};
-use oid::{Arc, Identifier, Refusal};
+use oid::{Arc, Identifier, Refusal, fits};
 
 // No identifier's text has more bytes, whatever the arc limit within 64 bits: 16 arcs of at most 20 digits, with 15
 // dots.
@@ -22,54 +21,45 @@ pub fn write(identifier: &Identifier, page: &mut [u8], place: usize) -> Result<u
     ensures succeeds { place + text_limit ≤ length page.old → is_ok result ≡ true }
     ensures reads_back { IfOk result (λ end. ReadsBack page.new place end (arcs_of identifier.now)) }
 {
-    let arcs = identifier.arcs();
-    if place > page.len() || text_length(arcs) > page.len() - place {
+    let length = text_length(identifier);
+    if !fits(page, place, length) {
         return Err(Refusal::PageTooShort);
     }
-    Ok(write_arcs(arcs, page, place))
+    write_text(identifier, &mut page[place..]);
+    Ok(place + length)
 }
 
-// How many bytes the text of an identifier's arcs has.
-fn text_length(arcs: &[Arc]) -> usize
-    requires { is_identifier arcs.now ≡ true }
-    ensures { result ≡ length (dotted_text arcs.now) }
+// How many bytes the identifier's text has: a dot with each arc but one.
+fn text_length(identifier: &Identifier) -> usize
+    ensures { result ≡ length (dotted_text (arcs_of identifier.now)) }
 {
-    let mut count = digit_count(u64::from(arcs[0]));
-    for i in 1..arcs.len() {
-        count += 1 + digit_count(u64::from(arcs[i]));
+    let arcs = identifier.arcs();
+    let with_dots: usize = arcs
+        .iter()
+        .map(|arc| 1 + digit_count(u64::from(*arc)))
+        .sum();
+    with_dots - 1
+}
+
+// Writes the identifier's text at the front of a page that has room for it.
+#[tactic(auto, using(oid::proofs::Tree::some_arcs))]
+fn write_text(identifier: &Identifier, page: &mut [u8])
+    requires { length (dotted_text (arcs_of identifier.now)) ≤ length page.old }
+    ensures { page.new ≡ at_front (dotted_text (arcs_of identifier.now)) page.old }
+{
+    let arcs = identifier.arcs();
+    let mut end = write_number(u64::from(arcs[0]), page);
+    for arc in &arcs[1..] {
+        end += write_after_dot(*arc, &mut page[end..]);
     }
-    count
 }
 
-// Writes the text of an identifier's arcs from a place where there is room for it, and answers the new end.
-fn write_arcs(arcs: &[Arc], page: &mut [u8], place: usize) -> usize
-    requires rule { is_identifier arcs.now ≡ true }
-    requires room { place + length (dotted_text arcs.now) ≤ length page.old }
-    ensures value { result ≡ place + length (dotted_text arcs.now) }
-    ensures after { page.new ≡ placed place (dotted_text arcs.now) page.old }
+// Writes a dot and an arc at the front of a page that has room for both, and answers how many bytes.
+fn write_after_dot(arc: Arc, page: &mut [u8]) -> usize
+    requires { length (after_dot arc) ≤ length page.old }
+    ensures value { result ≡ length (after_dot arc) }
+    ensures after { page.new ≡ at_front (after_dot arc) page.old }
 {
-    let mut end = write_arc(arcs[0], page, place);
-    for i in 1..arcs.len() {
-        end = write_next(arcs[i], page, end);
-    }
-    end
-}
-
-// Writes a dot and an arc from a place where there is room for both, and answers the new end.
-fn write_next(arc: Arc, page: &mut [u8], place: usize) -> usize
-    requires { place + length (after_dot arc) ≤ length page.old }
-    ensures value { result ≡ place + length (after_dot arc) }
-    ensures after { page.new ≡ placed place (after_dot arc) page.old }
-{
-    page[place] = b'.';
-    write_arc(arc, page, place + 1)
-}
-
-// Writes an arc from a place where there is room for it, and answers the new end.
-fn write_arc(arc: Arc, page: &mut [u8], place: usize) -> usize
-    requires { place + length (decimal arc) ≤ length page.old }
-    ensures value { result ≡ place + length (decimal arc) }
-    ensures after { page.new ≡ placed place (decimal arc) page.old }
-{
-    place + write_number(u64::from(arc), &mut page[place..])
+    page[0] = b'.';
+    1 + write_number(u64::from(arc), &mut page[1..])
 }

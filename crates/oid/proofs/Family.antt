@@ -1,5 +1,5 @@
 -- A parent and a child are what is identified of one arc less, and of one more.
-use Rattle.std.proofs.Common.{◌≡◌, ℕ, ◌-◌, ◌<◌, ◌≤◌, true, false, cond, ◌&&◌, ltb, leb, List, [], ◌∷◌, ◌++◌, length, take, Some, None, sym, ap, ◌∙◌, ⊎_elim, arith}
+use Rattle.std.proofs.Common.{◌≡◌, ℕ, ◌-◌, ◌<◌, ◌≤◌, true, false, cond, ◌&&◌, leb, List, [], ◌∷◌, ◌++◌, length, take, Some, None, sym, ap, ◌∙◌, ⊎_elim, arith}
 use Rattle.std.proofs.lemmas.List.{length_push, length-take-le, take_at, get_or_append_left}
 use Rattle.std.proofs.lemmas.Bool.{cases_lt, cond-true, cond-false, and_left, lt-ltb, le-ltb, lt-leb, le-leb}
 use Rattle.oid.specs.Arcs.{is_arc}
@@ -48,6 +48,3 @@ module _ (arcs : List ℕ) (arc : ℕ) where
   child_is rule room =
       ap (λ v. cond v (Some (arcs ++ arc ∷ [])) None) (one_more rule room)
       ∙ sym (ap (λ v. cond (v && is_arc arc) (Some (arcs ++ arc ∷ [])) None) (lt-ltb (length arcs) most_arcs room))
-
-  pub no_child : most_arcs ≤ length arcs → None ≡ child_of arcs arc
-  no_child full = sym (cond-false _ _ _ (and_left (ltb (length arcs) most_arcs) _ (le-ltb (length arcs) most_arcs full)))

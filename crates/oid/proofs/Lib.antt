@@ -1,5 +1,4 @@
 pub mod Arcs
-pub mod Digits
 pub mod Tree
 pub mod Family
 pub mod Places

@@ -1,10 +1,10 @@
 -- Laws of bytes that are put into a page.
-use Rattle.std.proofs.Common.{◌≡◌, ℕ, suc, ◌+◌, ◌-◌, ◌<◌, ◌≤◌, Bool, true, false, cond, List, [], ◌∷◌, ◌++◌, length, take, drop, set, Ok, Err, sym, refl, ap, ◌∙◌, append_assoc, arith}
+use Rattle.std.proofs.Common.{◌≡◌, ℕ, ◌+◌, ◌-◌, ◌≤◌, Bool, true, false, cond, List, [], ◌++◌, length, take, drop, Ok, Err, sym, refl, ap, ◌∙◌, append_assoc, arith}
 use Rattle.std.specs.List.{between}
 use borrow.Rule.Slice.PartMut.{put_mid}
-use Rattle.std.proofs.lemmas.List.{length-append, length-drop, length-take-le, take-append-drop, take_at, drop_at, drop-drop, drop_all, take_rest, append-nil, set_split}
-use Rattle.std.proofs.lemmas.Bool.{leb-true}
-use Rattle.oid.specs.Pages.{placed, fits, new_end, page_after}
+use Rattle.std.proofs.lemmas.List.{length-append, length-drop, length-take-le, take-append-drop, take_at, drop_at, drop-drop, drop_all, take_rest, append-nil}
+use Rattle.std.proofs.lemmas.Bool.{leb-true, cond-true}
+use Rattle.oid.specs.Pages.{placed, at_front, fits, new_end, page_after}
 use Rattle.oid.specs.declared.refusal.Refusal.TheVariants.{PageTooShort}
 
 pub placed_none : (place : ℕ) (page : List ℕ) → placed place [] page ≡ page
@@ -12,12 +12,6 @@ unfolding placed
 placed_none place page =
     let at : place + 0 ≡ place = omega arith in
     ap (λ n. take place page ++ drop n page) at ∙ take-append-drop place page
-
-pub placed_one : (place byte : ℕ) (page : List ℕ) → place < length page → set page place byte ≡ placed place (byte ∷ []) page
-unfolding placed
-placed_one place byte page h =
-    let next : suc place ≡ place + 1 = omega arith in
-    set_split page place byte h ∙ ap (λ n. take place page ++ byte ∷ drop n page) next
 
 -- one piece behind the other is both at once
 pub placed_both : (place : ℕ) (front back page : List ℕ) → place + length front ≤ length page
@@ -76,3 +70,17 @@ written_front bytes page after end told e = go (fits 0 bytes page) refl told e
         (λ k. take (count k) (drop 0 (same k)))
         ∙ between_placed 0 bytes page (leb-true (0 + length bytes) (length page) room)
     go false room h same = let z : ◌≡◌ {A = ℕ} 0 1 = cc in absurd (omega arith)
+
+-- a page whose tail was lent, where there was room for the bytes that went to its front
+module _ (place : ℕ) (bytes page tail : List ℕ) (room : fits place bytes page ≡ true) (lent : tail ≡ at_front bytes (take (length page - place) (drop place page))) where
+  enough : place + length bytes ≤ length page
+  enough = leb-true (place + length bytes) (length page) room
+
+  pub lent_after : put_mid place (length page - place) page tail ≡ page_after place bytes page
+  lent_after = placed_lent place bytes page tail (omega (arith, enough)) lent ∙ sym (cond-true (fits place bytes page) _ _ room)
+
+  pub lent_between : (count : ℕ) → count ≡ length bytes
+      → between place (place + count) (put_mid place (length page - place) page tail) ≡ bytes
+  lent_between count counted =
+      (λ k. between place (place + counted k) (placed_lent place bytes page tail (omega (arith, enough)) lent k))
+      ∙ between_placed place bytes page enough

@@ -30,6 +30,10 @@ keeps arcs h =
       start = s.0;
     }
 
+-- there are two arcs at least
+pub some_arcs : (arcs : List ℕ) → is_identifier arcs ≡ true → 2 ≤ length arcs
+some_arcs arcs h = (keeps arcs h).long
+
 pub kept : (arcs : List ℕ) → Keeps arcs → is_identifier arcs ≡ true
 unfolding is_identifier
 kept arcs k =

@@ -7,6 +7,10 @@ use Rattle.oid.specs.declared.refusal.Refusal.TheVariants.{PageTooShort}
 unfoldable pub placed : ℕ → List ℕ → List ℕ → List ℕ
 placed place bytes page = take place page ++ (bytes ++ drop (place + length bytes) page)
 
+-- the page with the bytes at its front, and every other byte as it was
+abbrev pub at_front : List ℕ → List ℕ → List ℕ
+at_front bytes page = bytes ++ drop (length bytes) page
+
 -- Is enough of the page left?
 abbrev pub fits : ℕ → List ℕ → List ℕ → Bool
 fits place bytes page = nat_le (place + length bytes) (length page)

@@ -8,14 +8,16 @@ mod family;
 mod making;
 pub mod same;
 
-// How many arcs an identifier has at least, and at most.
+// No identifier has fewer arcs.
 pub const FEWEST_ARCS: usize = 2;
 
+// No identifier has more arcs.
 pub const MOST_ARCS: usize = 16;
 
-// The roots of the tree are 0, 1 and 2, and under 0 and 1 no second arc is larger than 39.
+// The roots of the tree are 0, 1 and 2.
 pub const LAST_ROOT: Arc = 2;
 
+// Under the roots 0 and 1 no second arc is larger.
 pub const LAST_SECOND: Arc = 39;
 
 // A list of 2 to 16 arcs that keeps the tree's rule. Places past the length hold 0, so that two

@@ -52,9 +52,8 @@ impl Collector {
         if self.count < FEWEST_ARCS || self.count > MOST_ARCS {
             return Err(Refusal::ArcCount.at(0));
         }
-        Identifier::from_arcs(&self.arcs[..self.count]).ok_or(Refusal::FirstArcs.at(
-            self.wrong_start(),
-        ))
+        let unfit = Refusal::FirstArcs.at(self.wrong_start());
+        Identifier::from_arcs(&self.arcs[..self.count]).ok_or(unfit)
     }
 
     // Where the first number begins if it is no root, else the second.

@@ -27,6 +27,4 @@ impl Eq for Identifier {
 // What `==` computes decides equality; so `!=` and code that compares identifiers by the trait alone decide it too.
 pub fn equality_decides()
     ensures { EqualityDecides }
-{
-    ()
-}
+{}

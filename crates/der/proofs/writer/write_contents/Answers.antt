@@ -1,52 +1,59 @@
-use Rattle.std.proofs.Common.{◌≡◌, ◌+◌, ◌-◌, ◌≤◌, ◌++◌, length, drop, sym, ap, ◌∙◌, arith}
-use Rattle.oid.specs.Pages.{placed}
-use Rattle.oid.proofs.Pages.{placed_none, placed_both}
+use Rattle.std.proofs.Common.{◌≡◌, ◌+◌, ◌≤◌, ◌++◌, length, take, drop, sym, refl, ap, ◌∙◌, append_assoc, arith}
+use Rattle.std.proofs.lemmas.List.{take_at, drop_at, drop-drop, append-nil, take-append-drop}
+use Rattle.oid.specs.Meaning.{arcs_of}
 use Rattle.der.specs.Base128.{base128}
-use Rattle.der.specs.Writing.{subidentifiers_of}
-use Rattle.der.proofs.Contents.{written, contents_written, written_more, written_none, length_more, length_none, length_subs, some_arcs}
+use Rattle.der.specs.Writing.{contents_of}
+use Rattle.der.proofs.Contents.{written, contents_most, contents_are, length_are, written_more, length_more, written_none}
+use Rattle.der.proofs.Writing.{lent_more, length_left}
 use Rattle.der.proofs.writer.write_contents.Goals as goal
 
-pub loop-i-init : goal.loop-i-init
-loop-i-init c =
-    let all = contents_written c.args.arcs.now in
-    (ap (λ l. c.args.place + length l) (sym all), ap (λ l. placed c.args.place l c.args.page.now) (sym all))
+pub write_base128-end-requires : goal.write_base128-end-requires
+write_base128-end-requires c = omega (arith, c.requires, length_are _ _ _ c.subidentifiers_of-joined.ensures)
 
-pub write_subidentifier-end-requires : goal.write_subidentifier-end-requires
-write_subidentifier-end-requires c =
-    let arcs = c.args.arcs.now in
-    let one = ap (λ n. length (base128 n)) c.subidentifier.ensures in
-    let many = length_subs arcs (some_arcs arcs c.requires.rule) in
-    omega (arith, c.requires.room, c.loop-i.invariant.0, c.loop-i.auto.page, length_more (subidentifiers_of arcs) c.loop-i.i (omega arith) (omega arith))
+pub loop-arc-init : goal.loop-arc-init
+loop-arc-init c =
+    let bytes = base128 c.subidentifiers_of-joined.result.0 in
+    let rest = drop (length bytes) c.args.page.now in
+    let value = c.write_base128-end.ensures.value in
+    let after = c.write_base128-end.ensures.after in
+    record {
+      within = omega (arith, c.requires, length_are _ _ _ c.subidentifiers_of-joined.ensures);
+      so_far =
+          ap (λ l. l ++ written c.subidentifiers_of-joined.result.1.now) ((λ k. take (value k) (after k)) ∙ take_at bytes rest _ refl)
+          ∙ sym (contents_are _ _ _ c.subidentifiers_of-joined.ensures);
+      same = (λ k. drop (value k) (after k)) ∙ drop_at bytes rest _ refl ∙ ap (λ n. drop n c.args.page.now) (sym value);
+    }
 
-pub loop-i-preserved : goal.loop-i-preserved
-loop-i-preserved c =
-    let arcs = c.args.arcs.now in
-    let subs = subidentifiers_of arcs in
-    let i = c.loop-i.i in
-    let end = c.loop-i.end in
-    let page = c.loop-i.page in
-    let many = length_subs arcs (some_arcs arcs c.requires.rule) in
-    let front = base128 c.subidentifier.result in
-    let is_front = ap base128 c.subidentifier.ensures in
-    let back = written (drop (i + 1 - 1) subs) in
-    let more = length_more subs i (omega arith) (omega arith) in
-    let one = ap length is_front in
-    let room : end + length front ≤ length page = omega (arith, c.requires.room, c.loop-i.invariant.0, c.loop-i.auto.page) in
-    let both =
-    placed_both end front back page room
-    ∙ ap (λ l. placed end l page) (ap (λ l. l ++ back) is_front ∙ sym (written_more subs i (omega arith) (omega arith))) in
-    (omega (arith, c.loop-i.invariant.0, c.write_subidentifier-end.ensures.value), (λ k. placed (c.write_subidentifier-end.ensures.value k) back (c.write_subidentifier-end.ensures.after k)) ∙ both ∙ c.loop-i.invariant.1)
+pub loop-arc-preserved : goal.loop-arc-preserved
+loop-arc-preserved c =
+    let later = c.subidentifiers_of-joined.result.1.now in
+    let i = c.loop-arc.arc-index in
+    let end = c.loop-arc.end in
+    let page = c.loop-arc.page in
+    let bytes = base128 c.from.result in
+    let rest = written (drop (i + 1) later) in
+    let count = c.write_base128-end-in-loop-arc.result in
+    let left = length_left _ _ _ _ c.loop-arc.invariant.within c.loop-arc.invariant.so_far in
+    let room : end + length bytes ≤ length page = omega (arith, c.requires, c.loop-arc.auto.page, length_more later i (omega arith), ap (λ n. length (base128 n)) c.from.ensures) in
+    let longer = lent_more end count bytes page c.write_base128-end-in-loop-arc.new.page c.write_base128-end-in-loop-arc.ensures.value room c.write_base128-end-in-loop-arc.ensures.after in
+    let next : bytes ++ rest ≡ written (drop i later) = ap (λ n. base128 n ++ rest) c.from.ensures ∙ sym (written_more later i (omega arith)) in
+    record {
+      within = longer.within;
+      so_far = ap (λ l. l ++ rest) longer.front ∙ append_assoc (take end page) bytes rest ∙ ap (λ l. take end page ++ l) next ∙ c.loop-arc.invariant.so_far;
+      same = longer.behind ∙ sym (drop-drop count end page) ∙ ap (drop count) c.loop-arc.invariant.same ∙ drop-drop count end c.args.page.now;
+    }
 
 pub returns : goal.returns
 returns c =
-    let arcs = c.args.arcs.now in
-    let subs = subidentifiers_of arcs in
-    let many = length_subs arcs (some_arcs arcs c.requires.rule) in
-    let none = written_none subs c.loop-i.i (omega arith) in
-    let done : placed c.loop-i.end (written (drop (c.loop-i.i - 1) subs)) c.loop-i.page ≡ c.loop-i.page =
-    ap (λ l. placed c.loop-i.end l c.loop-i.page) none
-    ∙ placed_none c.loop-i.end c.loop-i.page in
+    let contents = contents_of (arcs_of c.args.identifier.now) in
+    let end = c.loop-arc.end in
+    let page = c.loop-arc.page in
+    let none = written_none c.subidentifiers_of-joined.result.1.now c.loop-arc.arc-index (omega arith) in
+    let all : take end page ≡ contents = sym (ap (λ l. take end page ++ l) none ∙ append-nil (take end page)) ∙ c.loop-arc.invariant.so_far in
+    let left = length_left _ _ _ _ c.loop-arc.invariant.within c.loop-arc.invariant.so_far in
+    let value : end ≡ length contents = omega (arith, ap length none) in
     record {
-      value = omega (arith, c.loop-i.invariant.0, length_none subs c.loop-i.i (omega arith));
-      after = sym done ∙ c.loop-i.invariant.1;
+      value = value;
+      bound = omega (arith, contents_most (arcs_of c.args.identifier.now) c.args.identifier.now.rule);
+      after = sym (take-append-drop end page) ∙ (λ k. all k ++ c.loop-arc.invariant.same k) ∙ ap (λ n. contents ++ drop n c.args.page.now) value;
     }

@@ -1,10 +1,13 @@
-use Rattle.std.proofs.Common.{◌≡◌, ◌+◌, ◌-◌, length, drop}
-use Rattle.oid.specs.Pages.{placed}
-use Rattle.der.specs.Writing.{subidentifiers_of, contents_of}
+use Rattle.std.proofs.Common.{◌≡◌, ◌≤◌, ◌++◌, length, take, drop}
+use Rattle.oid.specs.Meaning.{arcs_of}
+use Rattle.der.specs.Writing.{contents_of}
 use Rattle.der.proofs.Contents.{written}
 use Rattle.der.proofs.writer.write_contents.Given as goal
 
--- what is left of the contents, put at the present end, gives the page that is wanted
-abbrev pub invariant-loop-i : goal.invariant-loop-i
-invariant-loop-i l =
-    (l.end + length (written (drop (l.i - 1) (subidentifiers_of l.arcs))) ≡ l.place + length (contents_of l.arcs)) × (placed l.end (written (drop (l.i - 1) (subidentifiers_of l.arcs))) l.page ≡ placed l.place (contents_of l.arcs) l.initial.page)
+-- what is written and what is still to be written are all contents, and the page behind is as it was
+abbrev pub invariant-loop-arc : goal.invariant-loop-arc
+invariant-loop-arc l = record {
+  within : l.end ≤ length l.page;
+  so_far : take l.end l.page ++ written (drop l.arc-index l.later) ≡ contents_of (arcs_of l.identifier);
+  same : drop l.end l.page ≡ drop l.end l.fn.page;
+}

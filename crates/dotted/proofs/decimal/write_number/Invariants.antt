@@ -1,10 +1,10 @@
-use Rattle.std.proofs.Common.{◌≡◌, ◌+◌, ◌<◌, ◌≤◌, ◌++◌, length, drop, decimal}
+use Rattle.std.proofs.Common.{◌≡◌, map, take, drop}
+use Rattle.dotted.proofs.Digits.{written}
 use Rattle.dotted.proofs.decimal.write_number.Given as goal
 
--- what is still to be written, put before what stands behind it, gives the page that is wanted
-abbrev pub invariant-loop-rest : goal.invariant-loop-rest
-invariant-loop-rest l =
-    (l.rest ≤ l.number) × (l.at < length l.page) × (l.at + 1 ≡ length (decimal l.rest)) × (decimal l.rest ++ drop (l.at + 1) l.page ≡ decimal l.number ++ drop (length (decimal l.number)) l.initial.page)
-
-abbrev pub decreases-loop-rest : goal.decreases-loop-rest
-decreases-loop-rest l = l.rest
+-- as many digits as were gone over stand at the front, and the rest of the page is as it was
+abbrev pub invariant-loop-place : goal.invariant-loop-place
+invariant-loop-place l = record {
+  front : take l.place l.page ≡ map written (take l.place l.digit-items);
+  rest : drop l.place l.page ≡ drop l.place l.fn.page;
+}

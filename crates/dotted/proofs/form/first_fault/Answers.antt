@@ -1,25 +1,17 @@
-use Rattle.std.proofs.Common.{◌+◌, drop, sym, ap, ◌∙◌, arith}
-use Rattle.dotted.specs.Form.{faulty_from}
-use Rattle.dotted.proofs.Walks.{faulty_starts, faulty_empty, faulty_more, faulty_here, faulty_end}
+use Rattle.std.proofs.Common.{◌-◌, not, length, refl, sym, ◌∙◌, arith, rules}
+use borrow.Author.Tests.{tests}
+use Rattle.std.proofs.lemmas.Iterator.{YieldsList-from_range}
+use Rattle.std.proofs.lemmas.Iterator.Adapters.{option_map_id}
+use Rattle.std.proofs.lemmas.Iterator.Search.{find_from_yields_List}
+use Rattle.dotted.specs.Laws.{fits_at}
+use Rattle.dotted.proofs.Misfits.{faulty_found}
 use Rattle.dotted.proofs.form.first_fault.Goals as goal
-
-pub returns-then-start-text : goal.returns-then-start-text
-returns-then-start-text c = sym (faulty_empty c.args.text.now c.args.start (omega arith))
-
-pub returns-then-not-may_stand : goal.returns-then-not-may_stand
-returns-then-not-may_stand c =
-    let text = c.args.text.now in
-    let here = faulty_here text c.loop-i.i (omega arith) c.loop-i.after_digit (sym c.if-not-may_stand.ensures) in
-    sym (faulty_starts text c.args.start (omega arith) ∙ sym c.loop-i.invariant ∙ here)
-
-pub loop-i-preserved : goal.loop-i-preserved
-loop-i-preserved c =
-    let text = c.args.text.now in
-    let more = faulty_more text c.loop-i.i (omega arith) c.loop-i.after_digit (sym c.if-not-may_stand.ensures) in
-    ap (λ v. faulty_from (c.loop-i.i + 1) v (drop (c.loop-i.i + 1) text)) c.is_ascii_digit-after_digit.ensures.value
-    ∙ sym more ∙ c.loop-i.invariant
 
 pub returns : goal.returns
 returns c =
     let text = c.args.text.now in
-    sym (faulty_starts text c.args.start (omega arith) ∙ sym c.loop-i.invariant ∙ faulty_end text c.loop-i.i (omega arith) c.loop-i.after_digit)
+    let start = c.args.start in
+    let bytes = YieldsList-from_range start (length text) (length text - start) refl refl in
+    sym (option_map_id c.find.result)
+    ∙ find_from_yields_List (λ i. not (fits_at text start i)) _ _ c.find.result c.find.ensures.ran bytes (λ x b q k. search (rules, tests))
+    ∙ sym (faulty_found text start (omega arith))

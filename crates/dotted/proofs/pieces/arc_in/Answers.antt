@@ -1,16 +1,15 @@
-use Rattle.std.proofs.Common.{sym, ap, ◌∙◌, arith}
-use Rattle.std.proofs.lemmas.List.{take_all}
+use Rattle.std.proofs.Common.{◌≡◌, ◌+◌, ◌*◌, ◌-◌, ◌^◌, min, ap, ◌∙◌, arith, rules}
+use Rattle.std.specs.List.{fold}
 use Rattle.oid.specs.Arcs.{arc_of}
+use Rattle.oid.proofs.Arcs.{limit_room}
 use Rattle.dotted.specs.Pieces.{decimal_value}
-use Rattle.dotted.proofs.Walks.{value_more}
+use Rattle.digits.proofs.Values.{value_capped}
+use Rattle.dotted.proofs.Numerals.{arc_capped}
 use Rattle.dotted.proofs.pieces.arc_in.Goals as goal
-
-pub loop-digit-preserved : goal.loop-digit-preserved
-loop-digit-preserved c =
-    c.with_digit-arc.ensures _ c.loop-digit.invariant
-    ∙ sym (ap arc_of (value_more c.args.digits.now c.loop-digit.digit-index (omega arith)))
 
 pub returns : goal.returns
 returns c =
-    c.loop-digit.invariant
-    ∙ ap (λ l. arc_of (decimal_value l)) (take_all c.loop-digit.digit-index c.args.digits.now (omega arith))
+    let digits = c.args.digits.now in
+    let folded : c.fold-number.result ≡ fold (λ value byte. min (value * 10 + (byte - 48)) (2 ^ 64 - 1)) 0 digits = search rules in
+    c.arc_of.ensures ∙ ap arc_of (folded ∙ value_capped 10 (λ byte. byte - 48) (2 ^ 64 - 1) digits 0 0 (omega arith) (omega arith))
+    ∙ arc_capped (2 ^ 64 - 1) (decimal_value digits) (omega (arith, limit_room))

@@ -1,29 +1,26 @@
-use Rattle.std.proofs.Common.{length, decimal, ap, ◌∙◌, arith}
-use Rattle.dotted.proofs.Texts.{some_arcs, length_first, length_more, length_none, text_most}
+use Rattle.std.proofs.Common.{◌≡◌, ◌+◌, ◌^◌, length, decimal, ap, arith, rules}
+use borrow.Author.Tests.{tests}
+use Rattle.std.specs.List.{sum_by}
+use Rattle.std.proofs.lemmas.Iterator.{YieldsList-from_slice, YieldsList-from_map}
+use Rattle.std.proofs.lemmas.Iterator.Consumers.{fits_by_from_yields_list}
+use Rattle.dotted.specs.Writing.{dotted_text}
+use Rattle.dotted.proofs.Texts.{length_with_dots, text_most}
 use Rattle.dotted.proofs.writer.text_length.Goals as goal
 
-pub bounds-arcs-0 : goal.bounds-arcs-0
-bounds-arcs-0 c = omega (arith, some_arcs c.args.arcs.now c.requires)
+pub sum-with_dots-requires-clause-fits : goal.sum-with_dots-requires-clause-fits
+sum-with_dots-requires-clause-fits c =
+    let arcs = c.arcs-arcs.result.now in
+    fits_by_from_yields_list (λ arc. 1 + length (decimal arc)) arcs c.map.result (2 ^ 64) (YieldsList-from_map _ (λ arc. 1 + length (decimal arc)) (YieldsList-from_slice arcs (cc)) c.map.ensures.closure (λ x r q k. search (rules, tests))) (omega (arith, length_with_dots arcs c.arcs-arcs.ensures.rule, text_most arcs c.arcs-arcs.ensures.rule))
 
-pub loop-i-init : goal.loop-i-init
-loop-i-init c =
-    let digits = c.digit_count-count.ensures ∙ ap (λ n. length (decimal n)) c.from.ensures in
-    omega (arith, length_first c.args.arcs.now (omega (arith, some_arcs c.args.arcs.now c.requires)))
-
-pub overflow_add-count : goal.overflow_add-count
-overflow_add-count c =
-    let digits = c.digit_count.ensures ∙ ap (λ n. length (decimal n)) c.from-in-loop-i.ensures in
-    omega (arith, c.loop-i.invariant, length_more c.args.arcs.now c.loop-i.i (omega arith), text_most c.args.arcs.now c.requires)
-
-pub overflow_add-count-in-loop-i : goal.overflow_add-count-in-loop-i
-overflow_add-count-in-loop-i c =
-    let digits = c.digit_count.ensures ∙ ap (λ n. length (decimal n)) c.from-in-loop-i.ensures in
-    omega (arith, c.loop-i.invariant, length_more c.args.arcs.now c.loop-i.i (omega arith), text_most c.args.arcs.now c.requires)
-
-pub loop-i-preserved : goal.loop-i-preserved
-loop-i-preserved c =
-    let digits = c.digit_count.ensures ∙ ap (λ n. length (decimal n)) c.from-in-loop-i.ensures in
-    omega (arith, c.loop-i.invariant, length_more c.args.arcs.now c.loop-i.i (omega arith))
+pub overflow_sub-result : goal.overflow_sub-result
+overflow_sub-result c =
+    let arcs = c.arcs-arcs.result.now in
+    let is : c.sum-with_dots.result ≡ sum_by (λ arc. 1 + length (decimal arc)) arcs = search rules in
+    omega (arith, length_with_dots arcs c.arcs-arcs.ensures.rule)
 
 pub returns : goal.returns
-returns c = omega (arith, c.loop-i.invariant, length_none c.args.arcs.now c.loop-i.i (omega arith))
+returns c =
+    let arcs = c.arcs-arcs.result.now in
+    let is : c.sum-with_dots.result ≡ sum_by (λ arc. 1 + length (decimal arc)) arcs = search rules in
+    let text = ap (λ list. length (dotted_text list)) c.arcs-arcs.ensures.value in
+    omega (arith, length_with_dots arcs c.arcs-arcs.ensures.rule)

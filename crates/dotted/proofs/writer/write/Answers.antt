@@ -1,38 +1,32 @@
-use Rattle.std.proofs.Common.{◌≡◌, ◌+◌, ◌≤◌, length, Ok, refl, ap, ◌∙◌, arith, rules}
-use Rattle.std.specs.List.{between}
-use Rattle.oid.proofs.Pages.{between_placed}
+use Rattle.std.proofs.Common.{◌≡◌, ◌+◌, true, leb, length, sym, ap, ◌∙◌, arith}
+use Rattle.std.proofs.lemmas.Bool.{leb-false}
+use Rattle.oid.specs.Meaning.{arcs_of}
+use Rattle.oid.specs.Pages.{fits}
+use Rattle.oid.proofs.Pages.{lent_after, lent_between}
 use Rattle.dotted.specs.Reading.{read_dotted}
 use Rattle.dotted.specs.Writing.{dotted_text}
 use Rattle.dotted.proofs.Texts.{text_most}
 use Rattle.dotted.proofs.Theorems.{reads_back}
 use Rattle.dotted.proofs.writer.write.Goals as goal
-use Rattle.dotted.proofs.writer.write.Goals.{then-place-page-via-then-place-page, then-place-page-via-else-place-page+then-text_length-page}
+use Rattle.dotted.proofs.writer.write.Goals.{After-write_text}
 
-pub returns-then-place-page : goal.returns-then-place-page
-returns-then-place-page c = record {
-  value = search rules;
-  after = search rules;
-  succeeds = λ h.
-      let most = text_most c.arcs-arcs.result.now c.arcs-arcs.ensures.rule in
-      absurd (elim c.then-place-page.branch [
-        | then-place-page-via-then-place-page w ↦ omega (arith, w.if-place-page.true)
-        | then-place-page-via-else-place-page+then-text_length-page w ↦ omega (arith, w.text_length.ensures, w.if-text_length-page.true)
-      ]);
-  reads_back = tt;
-}
+pub returns-then-not-fits-clause-succeeds : goal.returns-then-not-fits-clause-succeeds
+returns-then-not-fits-clause-succeeds c = λ h.
+    let few = leb-false (c.args.place + c.text_length-length.result) (length c.args.page.now) (sym c.if-not-fits.ensures) in
+    absurd (omega (arith, c.text_length-length.ensures, text_most (arcs_of c.args.identifier.now) c.args.identifier.now.rule))
 
-pub returns : goal.returns
-returns c =
-    let place = c.args.place in
-    let arcs = c.arcs-arcs.result.now in
-    let room : place + length (dotted_text arcs) ≤ length c.args.page.now =
-    omega (arith, c.text_length.ensures, c.if-text_length-page.false, c.if-place-page.false) in
-    let there : between place c.write_arcs.result c.write_arcs.new.page ≡ dotted_text arcs =
-    (λ k. between place (c.write_arcs.ensures.value k) (c.write_arcs.ensures.after k))
-    ∙ between_placed place (dotted_text arcs) c.args.page.now room in
-    record {
-      value = search rules;
-      after = search rules;
-      succeeds = λ _. refl;
-      reads_back = ap read_dotted there ∙ reads_back arcs c.arcs-arcs.ensures.rule ∙ ap Ok c.arcs-arcs.ensures.value;
-    }
+-- there was room for it
+room : (c : After-write_text) → fits c.args.place (dotted_text (arcs_of c.args.identifier.now)) c.args.page.now ≡ true
+room c =
+    ap (λ n. leb (c.args.place + n) (length c.args.page.now)) (sym c.text_length-length.ensures) ∙ sym c.fits.ensures ∙ c.if-not-fits.false
+
+pub returns-clause-after : goal.returns-clause-after
+returns-clause-after c =
+    lent_after c.args.place (dotted_text (arcs_of c.args.identifier.now)) c.args.page.now c.write_text.new.page (room (goal.at.returns-clause-after c).After-write_text) c.write_text.ensures
+
+pub returns-clause-reads_back : goal.returns-clause-reads_back
+returns-clause-reads_back c =
+    let text = dotted_text (arcs_of c.args.identifier.now) in
+    let there = room (goal.at.returns-clause-reads_back c).After-write_text in
+    ap read_dotted (lent_between c.args.place text c.args.page.now c.write_text.new.page there c.write_text.ensures _ c.text_length-length.ensures)
+    ∙ reads_back (arcs_of c.args.identifier.now) c.args.identifier.now.rule

@@ -27,4 +27,4 @@ pub returns : goal.returns
 returns c numbers known =
     ap (result_map_both arcs_of (λ other. other)) c.ok_or.ensures.value
     ∙ finished c.args.self.now numbers known c.in_default.is c.in_default-large.is c.if-self-lt-FEWEST_ARCS.false c.if-self-gt-MOST_ARCS.false
-    c.from_arcs.result _ _ c.from_arcs.ensures c.at-2.ensures c.wrong_start.ensures
+    c.from_arcs.result _ _ c.from_arcs.ensures c.at-unfit.ensures c.wrong_start.ensures
