@@ -8,8 +8,10 @@ use Rattle.der.specs.Header.{taken_in}
 use Rattle.der.specs.Reading.{read_der}
 use Rattle.input.specs.Hex.{unpaired, pairs_in}
 use Rattle.input.specs.Limits.{line_limit}
-use Rattle.chip.specs.declared.verdict.Verdict.{Verdict}
-use Rattle.chip.specs.declared.verdict.Verdict.TheVariants.{Sticker, Chip, Faulty, NotHex, Long}
+use Rattle.chip.specs.declared.trouble.Trouble.{Trouble}
+use Rattle.chip.specs.declared.trouble.Trouble.TheVariants.{Faulty, NotHex, Long}
+use Rattle.chip.specs.declared.found.Found.{Found}
+use Rattle.chip.specs.declared.found.Found.TheVariants.{Sticker, Chip}
 
 -- The answers: a sticker with its arcs; a chip with its arcs, the bytes taken and those left; a fault; a byte at this
 -- offset of the line that is no digit of a pair; a line that is too long.
@@ -20,13 +22,13 @@ pub data Answer : Type 0 where
   not_hex : ℕ → Answer
   too_long : Answer
 
--- what a verdict says
-abbrev pub said : Verdict → Answer
-said (Sticker identifier) = sticker (arcs_of identifier)
-said (Chip identifier count left) = chip (arcs_of identifier) count left
-said (Faulty fault) = faulty fault
-said (NotHex offset) = not_hex offset
-said Long = too_long
+-- what was found on a line, or the trouble with it, says
+abbrev pub said : Result Found Trouble → Answer
+said (Ok (Sticker identifier)) = sticker (arcs_of identifier)
+said (Ok (Chip identifier taken left)) = chip (arcs_of identifier) taken left
+said (Err (Faulty fault)) = faulty fault
+said (Err (NotHex offset)) = not_hex offset
+said (Err Long) = too_long
 
 -- a sticker's text is read
 abbrev pub by_text : Result (List ℕ) Fault → Answer
@@ -68,3 +70,7 @@ is_good (chip arcs count left) = true
 is_good (faulty fault) = false
 is_good (not_hex offset) = false
 is_good too_long = false
+
+-- whether a line is read as an identifier
+abbrev pub good_line : List ℕ → Bool
+good_line line = is_good (on_line line)

@@ -2,36 +2,19 @@
 // output.
 #![tactic(auto)]
 
-mod answers;
+mod found;
 mod judging;
 mod stickers;
-mod tally;
-mod verdict;
+mod trouble;
 
-use input::read_lines;
-use std::alloc::Global;
-use std::io::{BufWriter, Read, Write};
+use input::check_lines;
+use std::io::BufWriter;
 use stickers::Stickers;
-use tally::Tally;
 
 fn main(rt: HostRuntime) -> anyhow::Result<()> {
     let mut input = rt.stdin();
     let out = BufWriter::new(rt.alloc(), rt.stdout())?;
-    check_stickers(rt.alloc(), &mut input, out)
-}
-
-fn check_stickers<R: Read, W: Write + Drop>(
-    heap: Global,
-    input: &mut R,
-    out: W,
-) -> anyhow::Result<()> {
-    let mut stickers = Stickers {
-        tally: Tally::new(),
-        out,
-    };
-    read_lines(heap, input, &mut stickers)?;
-    let Tally { read, refused } = stickers.tally;
-    writeln!(stickers.out, "{read} read, {refused} refused")?;
-    stickers.out.flush()?;
+    let mut checked = check_lines(rt.alloc(), Stickers, &mut input, out)?;
+    checked.finish()?;
     Ok(())
 }

@@ -1,30 +1,29 @@
-// Lines judged, counted and answered, one after the other.
-ghost use Rattle.chip.specs.Counting.{Tallied};
+// Stickers and chips as lines to be checked.
+ghost use Rattle.std.specs.Prelude.{◌≡◌, ℕ, List, is_ok};
+ghost use Rattle.input.specs.Lines.{Took};
+ghost use Rattle.chip.specs.Answers.{said, on_line, good_line};
 
-use crate::answers::write_answer;
+use crate::found::Found;
 use crate::judging::judge;
-use crate::tally::Tally;
-use input::{Line, LineTaker};
-use std::io;
-use std::io::Write;
+use crate::trouble::Trouble;
+use input::{Checker, Line};
 
-// The lines so far, counted; answers are written as the lines come.
-#[derive(Drop)]
-pub struct Stickers<W> {
-    pub tally: Tally,
-    pub out: W,
-}
+// Takes each line for a sticker's text or a chip's content.
+#[derive(Clone, Copy)]
+pub struct Stickers;
 
-impl<W: Write> LineTaker for Stickers<W> {
-    ghost took = { λ stickers lines. Tallied stickers.tally lines };
+impl Checker for Stickers {
+    ghost good = { good_line };
 
-    fn take_line(&mut self, line: &Line) -> io::Result<()> {
-        let verdict = judge(line);
-        self.tally.count(&verdict);
-        write_answer(&verdict, &mut self.out)
-    }
+    type Found = Found;
 
-    fn pause(&mut self) -> io::Result<()> {
-        self.out.flush()
+    type Trouble = Trouble;
+
+    #[tactic(auto, using(crate::proofs::Judged::found_good))]
+    fn check(&self, line: &Line) -> Result<Found, Trouble>
+        ensures is_read { (bytes : List ℕ) → Took line.now bytes → is_ok result ≡ good_line bytes }
+        ensures says { (bytes : List ℕ) → Took line.now bytes → said result ≡ on_line bytes }
+    {
+        judge(line)
     }
 }

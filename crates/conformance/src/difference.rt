@@ -1,5 +1,8 @@
 // How we may differ from a line.
-#[derive(Clone, Copy)]
+use std::error::Error;
+use std::fmt;
+
+#[derive(Clone, Copy, PartialEq, Eq, Debug)]
 pub enum Difference {
     // The line is no mark, text and pairs of digits.
     Form,
@@ -12,3 +15,17 @@ pub enum Difference {
     // Another text is written of the bytes' identifier.
     TextWritten,
 }
+
+impl fmt::Display for Difference {
+    fn fmt<W: fmt::Write>(&self, f: &mut fmt::Formatter<W>) -> fmt::Result {
+        f.write_str(match self {
+            Difference::Form => "it is not a mark, a text and pairs of hexadecimal digits",
+            Difference::TextRead => "the text is read otherwise",
+            Difference::BytesWritten => "other bytes are written",
+            Difference::BytesRead => "the bytes are read otherwise",
+            Difference::TextWritten => "another text is written",
+        })
+    }
+}
+
+impl Error for Difference {}

@@ -1,43 +1,37 @@
 // A line compared.
 ghost use Rattle.std.specs.Prelude.{◌≡◌, ℕ, ◌≤◌, List, length, Some};
+ghost use Rattle.std.specs.Result.{result_err};
 ghost use Rattle.input.specs.Limits.{line_limit};
 ghost use Rattle.input.specs.Lines.{Took};
 ghost use Rattle.conformance.specs.Differences.{by_mark, from_line};
 
-use crate::comparing::compare;
+use crate::case::Case;
 use crate::difference::Difference;
 use crate::mark::{Mark, mark_of};
-use input::{Line, first_unpaired, read_pairs, split_field};
+use input::{Line, content_of, split_field};
 
-// No line has more pairs of digits.
-const MOST_PAIRS: usize = 2048;
-
-// Where we differ from a line; none where we agree.
-pub fn line_difference(line: &Line) -> Option<Difference>
-    ensures { (bytes : List ℕ) → Took line.now bytes → result ≡ from_line bytes }
+// Whether we agree with a line; else where we differ from it.
+pub fn compare_line(line: &Line) -> Result<(), Difference>
+    ensures { (bytes : List ℕ) → Took line.now bytes → result_err result ≡ from_line bytes }
 {
-    if !line.is_whole() {
-        return Some(Difference::Form);
-    }
-    let (word, rest) = split_field(line.bytes());
-    match mark_of(word) {
-        Some(mark) => rest_difference(mark, rest),
-        None => Some(Difference::Form),
-    }
+    let Some(bytes) = line.whole() else {
+        return Err(Difference::Form);
+    };
+    let (word, rest) = split_field(bytes);
+    let mark = mark_of(word).ok_or(Difference::Form)?;
+    compare_rest(mark, rest)
 }
 
 // The same of what stands behind the mark.
-fn rest_difference(mark: Mark, rest: &[u8]) -> Option<Difference>
+fn compare_rest(mark: Mark, rest: &[u8]) -> Result<(), Difference>
     requires { length rest.now ≤ line_limit }
-    ensures { result ≡ by_mark (Some mark) rest.now }
+    ensures { result_err result ≡ by_mark (Some mark) rest.now }
 {
     let (text, digits) = split_field(rest);
-    if first_unpaired(digits).is_some() {
-        return Some(Difference::Form);
-    }
-    let mut page = [0; MOST_PAIRS];
-    let Some(count) = read_pairs(digits, &mut page) else {
-        unreachable()
+    let content = content_of(digits).map_err(|_| Difference::Form)?;
+    let case = Case {
+        text,
+        encoding: content.as_slice(),
     };
-    compare(mark, text, &page[0..count])
+    case.compare(mark)
 }

@@ -1,81 +1,68 @@
 // Compares our readers and writers with the standard's examples and with another implementation's encodings.
 #![tactic(auto)]
 
-mod comparing;
+mod case;
 mod comparison;
 mod difference;
 mod judging;
 mod mark;
 mod taking;
 
-use anyhow::anyhow;
-use comparing::compare;
+use anyhow::bail;
+use case::Case;
 use comparison::Comparison;
-use difference::Difference;
-use input::read_lines;
+use input::Pairs;
 use mark::Mark;
-use std::alloc::Global;
-use std::io;
-use std::io::{BufWriter, Read, Write};
+use std::io::{BufWriter, Write};
+use taking::compare_lines;
 
-// X.690's example of an object identifier, and the same rule for an arc that newer editions use: the text, and the
-// bytes.
-const EXAMPLES: [(&[u8], &[u8]); 2] = [
-    (b"2.100.3", &[0x06, 0x03, 0x81, 0x34, 0x03]),
-    (b"2.999.3", &[0x06, 0x03, 0x88, 0x37, 0x03]),
+// X.690's example of an object identifier, and the same rule for an arc that newer editions use.
+const EXAMPLES: [Case<'static>; 2] = [
+    Case {
+        text: b"2.100.3",
+        encoding: &[0x06, 0x03, 0x81, 0x34, 0x03],
+    },
+    Case {
+        text: b"2.999.3",
+        encoding: &[0x06, 0x03, 0x88, 0x37, 0x03],
+    },
 ];
 
 fn main(rt: HostRuntime) -> anyhow::Result<()> {
     let mut input = rt.stdin();
     let mut out = BufWriter::new(rt.alloc(), rt.stdout())?;
-    conform(rt.alloc(), &mut input, &mut out)
+    for example in EXAMPLES {
+        run_example(&example, &mut out)?;
+    }
+    let comparison = compare_lines(rt.alloc(), &mut input)?;
+    write_comparison(&comparison, &mut out)
 }
 
-fn conform<R: Read, W: Write>(heap: Global, input: &mut R, out: &mut W) -> anyhow::Result<()> {
-    for (text, bytes) in EXAMPLES {
-        run_example(text, bytes, out)?;
+fn run_example<W: Write>(example: &Case, out: &mut W) -> anyhow::Result<()> {
+    let encoding = Pairs {
+        bytes: example.encoding,
+        between: " ",
+    };
+    out.write_all(example.text)?;
+    write!(out, " is {encoding}: ")?;
+    if let Err(difference) = example.compare(Mark::Equal) {
+        writeln!(out, "{difference}")?;
+        out.flush()?;
+        bail!("an example differs");
     }
-    let mut comparison = Comparison::new();
-    read_lines(heap, input, &mut comparison)?;
+    writeln!(out, "agreed")?;
+    Ok(())
+}
+
+fn write_comparison<W: Write>(comparison: &Comparison, out: &mut W) -> anyhow::Result<()> {
     let agreed = comparison.agreed;
     writeln!(out, "{agreed} encodings agreed")?;
     if let Some(difference) = comparison.first {
         let number = agreed.saturating_add(1);
-        write!(out, "line {number} differs: ")?;
-        write_difference(difference, out)?;
+        writeln!(out, "line {number} differs: {difference}")?;
         out.flush()?;
-        return Err(anyhow!("a line differs"));
+        bail!("a line differs");
     }
     out.flush()?;
     Ok(())
-}
-
-fn run_example<W: Write>(text: &[u8], bytes: &[u8], out: &mut W) -> anyhow::Result<()> {
-    out.write_all(text)?;
-    out.write_all(b" is")?;
-    for byte in bytes {
-        let value = *byte;
-        write!(out, " {value:02X}")?;
-    }
-    if let Some(difference) = compare(Mark::Equal, text, bytes) {
-        out.write_all(b": ")?;
-        write_difference(difference, out)?;
-        out.flush()?;
-        return Err(anyhow!("an example differs"));
-    }
-    writeln!(out, ": agreed")?;
-    Ok(())
-}
-
-fn write_difference<W: Write>(difference: Difference, out: &mut W) -> io::Result<()> {
-    match difference {
-        Difference::Form => writeln!(
-            out,
-            "it is not a mark, a text and pairs of hexadecimal digits"
-        ),
-        Difference::TextRead => writeln!(out, "the text is read otherwise"),
-        Difference::BytesWritten => writeln!(out, "other bytes are written"),
-        Difference::BytesRead => writeln!(out, "the bytes are read otherwise"),
-        Difference::TextWritten => writeln!(out, "another text is written"),
-    }
 }

@@ -21,17 +21,12 @@ pub enum Mark {
 pub fn mark_of(word: &[u8]) -> Option<Mark>
     ensures { result ≡ mark_of word.now }
 {
-    if word == b"equal".as_slice() {
-        Some(Mark::Equal)
-    } else if word == b"large".as_slice() {
-        Some(Mark::Large)
-    } else if word == b"many".as_slice() {
-        Some(Mark::Many)
-    } else if word == b"large-long".as_slice() {
-        Some(Mark::LargeLong)
-    } else if word == b"many-long".as_slice() {
-        Some(Mark::ManyLong)
-    } else {
-        None
+    match word {
+        b"equal" => Some(Mark::Equal),
+        b"large" => Some(Mark::Large),
+        b"many" => Some(Mark::Many),
+        b"large-long" => Some(Mark::LargeLong),
+        b"many-long" => Some(Mark::ManyLong),
+        _ => None,
     }
 }

@@ -1,3 +1,3 @@
 pub mod Digits
-pub mod Splitting
+pub mod Feeding
 pub mod Taking

@@ -1,26 +1,20 @@
 -- Pairs of hexadecimal digits, in capitals or small letters.
-use Rattle.std.specs.Prelude.{ℕ, ◌+◌, ◌-◌, ◌*◌, ◌%◌, Bool, cond, ◌&&◌, ◌||◌, List, [], ◌∷◌, ◌++◌, length, drop, Some, None, Option, ◌==◌, nat_le}
+use Rattle.std.specs.Prelude.{ℕ, ◌+◌, ◌-◌, ◌*◌, ◌%◌, Bool, not, cond, List, [], ◌∷◌, ◌++◌, length, drop, position, Some, None, Option, ◌==◌, nat_le}
+use Rattle.std.specs.Char.{is_ascii_hexdigit}
+use Rattle.std.specs.Int.{is_in_range}
 use Rattle.std.specs.Option.{option_or}
 
-abbrev pub from_to : ℕ → ℕ → ℕ → Bool
-from_to first last byte = nat_le first byte && nat_le byte last
-
--- 0 to 9, A to F, a to f
-abbrev pub is_hex : ℕ → Bool
-is_hex byte = from_to 48 57 byte || (from_to 65 70 byte || from_to 97 102 byte)
+-- a byte that is no digit: none of 0 to 9, A to F and a to f
+abbrev pub is_stray : ℕ → Bool
+is_stray byte = not (is_ascii_hexdigit byte)
 
 -- the value of a digit; of another byte 0
 abbrev pub hex_value : ℕ → ℕ
-hex_value byte = cond (from_to 48 57 byte) (byte - 48) (cond (from_to 65 70 byte) (byte - 55) (cond (from_to 97 102 byte) (byte - 87) 0))
-
--- the offset of the first byte that is no digit, in what begins at `offset`
-unfoldable pub no_digit_from : ℕ → List ℕ → Option ℕ
-no_digit_from offset [] = None
-no_digit_from offset (byte ∷ rest) = cond (is_hex byte) (no_digit_from (offset + 1) rest) (Some offset)
+hex_value byte = cond (is_in_range 48 57 byte) (byte - 48) (cond (is_in_range 65 70 byte) (byte - 55) (cond (is_in_range 97 102 byte) (byte - 87) 0))
 
 -- the offset of the first byte at fault: the first that is no digit, else an odd last digit
 abbrev pub unpaired : List ℕ → Option ℕ
-unpaired digits = option_or (no_digit_from 0 digits) (cond (length digits % 2 == 1) (Some (length digits - 1)) None)
+unpaired digits = option_or (position is_stray digits) (cond (length digits % 2 == 1) (Some (length digits - 1)) None)
 
 -- the bytes that pairs write, the higher digit first
 unfoldable pub pairs_in : List ℕ → List ℕ

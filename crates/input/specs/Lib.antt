@@ -2,3 +2,4 @@ pub mod Limits
 pub mod Lines
 pub mod Fields
 pub mod Hex
+pub mod Counting

@@ -1,12 +1,11 @@
 -- Lines: the bytes that one has taken, and how input is cut into them.
-use Rattle.std.specs.Prelude.{◌≡◌, ℕ, cond, List, [], ◌∷◌, ◌++◌, length, take, vec_items, ◌==◌, nat_lt}
+use Rattle.std.specs.Prelude.{◌≡◌, ℕ, ◌+◌, cond, List, [], ◌∷◌, ◌++◌, take, ◌==◌}
 use Rattle.input.specs.Limits.{line_limit, line_feed}
 use Rattle.input.specs.declared.line.Line.{Line}
 
--- the line has taken these bytes since it began: it keeps the first ones, and knows whether there were more
-pub record Took (line : Line) (bytes : List ℕ) : Type 0 where
-  pub kept : vec_items line.bytes ≡ take line_limit bytes
-  pub long : line.long ≡ nat_lt line_limit (length bytes)
+-- the line has taken these bytes since it began: it keeps the first ones, up to one more than may be read
+abbrev pub Took : Line → List ℕ → Type 0
+Took line bytes = line ≡ take (line_limit + 1) bytes
 
 -- the line that is under way after more input: what came since the last line feed
 unfoldable pub underway : List ℕ → List ℕ → List ℕ
@@ -22,3 +21,7 @@ ended line (byte ∷ input) = cond (byte == line_feed) (line ∷ ended [] input)
 abbrev pub last_line : List ℕ → List (List ℕ)
 last_line [] = []
 last_line (byte ∷ rest) = (byte ∷ rest) ∷ []
+
+-- all lines of some input: those that a line feed ends, and the last line
+abbrev pub lines_in : List ℕ → List (List ℕ)
+lines_in input = ended [] input ++ last_line (underway [] input)

@@ -1,8 +1,9 @@
 // Input cut into lines.
-ghost use Rattle.std.specs.Prelude.{ℕ, List, [], ◌∷◌, ◌++◌, OnOk};
-ghost use Rattle.input.specs.Lines.{Took, underway, ended, last_line};
+ghost use Rattle.std.specs.Prelude.{◌≡◌, ℕ, List, [], ◌∷◌, ◌++◌, OnOk};
+ghost use Rattle.input.specs.Lines.{Took, underway, ended, last_line, lines_in};
 
 use crate::line::Line;
+use anyhow::bail;
 use std::alloc::Global;
 use std::io;
 use std::io::Read;
@@ -17,7 +18,8 @@ pub trait LineTaker {
 
     // Takes a line that has ended.
     fn take_line(&mut self, line: &Line) -> io::Result<()>
-        ensures { OnOk result ((lines : List (List ℕ)) (bytes : List ℕ) → took self.old lines → Took line.now bytes → took self.new (lines ++ bytes ∷ [])) };
+        ensures { OnOk result ((lines : List (List ℕ)) (bytes : List ℕ) → took self.old lines
+            → Took line.now bytes → took self.new (lines ++ bytes ∷ [])) };
 
     // Called where the input pauses: whoever waits for answers can have them.
     fn pause(&mut self) -> io::Result<()>
@@ -25,28 +27,38 @@ pub trait LineTaker {
 }
 
 // Hands all lines of the input to a taker. A last line without a line feed is a line; nothing after the last line feed
-// is none.
+// is none. The first clause is of any reader, the others where its bytes are known.
 pub fn read_lines<R: Read, T: LineTaker>(
     heap: Global,
     input: &mut R,
     taker: &mut T,
 ) -> anyhow::Result<()>
-    ensures { OnOk result ((lines : List (List ℕ)) → T.took taker.old lines → (more : List (List ℕ)) × T.took taker.new (lines ++ more)) }
+    ensures more { OnOk result ((lines : List (List ℕ)) → T.took taker.old lines
+        → (more : List (List ℕ)) × T.took taker.new (lines ++ more)) }
+
+    ensures all { OnOk result ((lines : List (List ℕ)) (bytes : List ℕ) → T.took taker.old lines
+        → R.remaining input.old ≡ Some bytes → T.took taker.new (lines ++ lines_in bytes)) }
+    ensures end { OnOk result ((bytes : List ℕ) → R.remaining input.old ≡ Some bytes
+        → R.remaining input.new ≡ Some []) }
 {
     let mut line = Line::new(heap)?;
-    let mut chunk = vec![in heap; 0; CHUNK]?;
+    let mut chunk = [0; CHUNK];
     for _ in 0..u64::MAX {
-        if !take_chunk(input, chunk.as_mut_slice(), &mut line, taker)? {
-            break;
+        let count = input.read(&mut chunk)?;
+        if count == 0 {
+            take_last(&line, taker)?;
+            return Ok(());
         }
+        take_bytes(&chunk[..count], &mut line, taker)?;
+        taker.pause()?;
     }
-    take_last(&line, taker)?;
-    Ok(())
+    bail!("the input does not end")
 }
 
 // Takes what is under way where the input has ended, if that is anything.
 fn take_last<T: LineTaker>(line: &Line, taker: &mut T) -> io::Result<()>
-    ensures { OnOk result ((lines : List (List ℕ)) (bytes : List ℕ) → T.took taker.old lines → Took line.now bytes → T.took taker.new (lines ++ last_line bytes)) }
+    ensures { OnOk result ((lines : List (List ℕ)) (bytes : List ℕ) → T.took taker.old lines
+        → Took line.now bytes → T.took taker.new (lines ++ last_line bytes)) }
 {
     if line.is_empty() {
         return Ok(());
@@ -54,24 +66,11 @@ fn take_last<T: LineTaker>(line: &Line, taker: &mut T) -> io::Result<()>
     taker.take_line(line)
 }
 
-// Reads some input and takes it; answers whether there was any.
-fn take_chunk<R: Read, T: LineTaker>(
-    input: &mut R,
-    chunk: &mut [u8],
-    line: &mut Line,
-    taker: &mut T,
-) -> io::Result<bool>
-    ensures { OnOk result ((lines : List (List ℕ)) (bytes : List ℕ) → T.took taker.old lines → Took line.old bytes → (more : List (List ℕ)) × (next : List ℕ) × T.took taker.new (lines ++ more) × Took line.new next) }
-{
-    let count = input.read(chunk)?;
-    take_bytes(&chunk[0..count], line, taker)?;
-    taker.pause()?;
-    Ok(count > 0)
-}
-
 // Takes more input: each line feed ends a line, and every other byte belongs to one.
 fn take_bytes<T: LineTaker>(input: &[u8], line: &mut Line, taker: &mut T) -> io::Result<()>
-    ensures { OnOk result ((lines : List (List ℕ)) (bytes : List ℕ) → T.took taker.old lines → Took line.old bytes → T.took taker.new (lines ++ ended bytes input.now) × Took line.new (underway bytes input.now)) }
+    ensures rest { OnOk result ((bytes : List ℕ) → Took line.old bytes → Took line.new (underway bytes input.now)) }
+    ensures taken { OnOk result ((lines : List (List ℕ)) (bytes : List ℕ) → T.took taker.old lines
+        → Took line.old bytes → T.took taker.new (lines ++ ended bytes input.now)) }
 {
     for byte in input {
         if *byte == b'\n' {

@@ -1,13 +1,23 @@
-// What the programs read: lines of input in memory that does not grow with them, their fields, and
-// pairs of hexadecimal digits.
+// What the programs read and count: lines of input in memory that does not grow with them, their fields, and pairs of
+// hexadecimal digits.
 #![tactic(auto)]
 
+pub mod checking;
+pub mod content;
 pub mod feed;
 pub mod fields;
 pub mod hex;
 pub mod line;
+pub mod shown;
+pub mod tally;
+#[cfg(test)]
+mod tests;
 
+pub use checking::{Checked, Checker, check_lines};
+pub use content::{Unpaired, content_of};
 pub use feed::{LineTaker, read_lines};
 pub use fields::split_field;
 pub use hex::{first_unpaired, read_pairs};
 pub use line::{LINE_LIMIT, Line};
+pub use shown::{Pairs, TooLong};
+pub use tally::Tally;

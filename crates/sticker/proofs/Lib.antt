@@ -1,1 +1,1 @@
-pub mod Lines
+mod Judged

@@ -5,4 +5,4 @@ use Rattle.chip.proofs.judging.judge_content.Goals as goal
 
 pub overflow_sub-result : goal.overflow_sub-result
 overflow_sub-result c =
-    omega (arith, ap (λ r. result_unwrap_or r 0) c.in-Ok.ensures.value, taken_within c.args.content.now)
+    omega (arith, ap (λ r. result_unwrap_or r 0) c.in_ok-taken.ensures.value, taken_within c.args.content.now)

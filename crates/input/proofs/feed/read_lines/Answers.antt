@@ -1,52 +1,35 @@
-use Rattle.std.proofs.Common.{ℕ, List, [], ◌++◌, sym, subst, append_assoc}
-use Rattle.std.proofs.lemmas.List.{append-nil}
-use Rattle.std.proofs.lemmas.Result.{IfOk-from_err}
-use Rattle.input.specs.Lines.{Took, last_line}
+use Rattle.std.proofs.Common.{◌<◌, ℕ, List, ◌++◌, length, take, refl, subst, arith}
+use Rattle.std.specs.Io.KnownBytes.{Consumes}
+use Rattle.input.specs.Lines.{lines_in}
+use Rattle.input.proofs.Feeding.{fed_none, fed_more, fed_last, fed_all}
 use Rattle.input.proofs.feed.read_lines.Given.{Over}
 use Rattle.input.proofs.feed.read_lines.Goals as goal
-use Rattle.input.proofs.feed.read_lines.Goals.{else-loop-test, then-loop-test+in_ok-take_chunk+then-not-branch}
-
-pub returns-in_err-take_chunk : goal.returns-in_err-take_chunk
-returns-in_err-take_chunk g c =
-    IfOk-from_err c.from_residual-in_err-take_chunk.result _ c.from_residual-in_err-take_chunk.ensures.0
 
 pub loop-init : goal.loop-init
-loop-init g c lines took =
-    ([], [], subst (g.T.LineTaker.took c.args.taker.now) (sym (append-nil lines)) took, c.in_ok-line.ensures)
+loop-init g c = (fed_none g.T.LineTaker.took (g.R.Read.remaining c.args.input.now) c.args.taker.now c.in_ok-line.line c.in_ok-line.ensures, refl)
 
 pub loop-preserved : goal.loop-preserved
-loop-preserved g c lines took =
-    let found = c.loop.invariant lines took in
-    let next = c.in_ok-take_chunk.ensures (lines ++ found.0) found.1 found.2 found.3 in
-    (found.0 ++ next.0, next.1, subst (g.T.LineTaker.took c.take_chunk.new.taker) (append_assoc lines found.0 next.0) next.2, next.3)
+loop-preserved g c =
+    let so_far = c.loop.invariant in
+    let piece = c.in_ok-take_bytes.ensures in
+    let fed = fed_more g.T.LineTaker.took (g.R.Read.remaining c.args.input.now) c.args.taker.now _ c.loop.taker c.loop.line so_far.0 (g.R.Read.remaining c.read.new.self) c.pause.new.self c.take_bytes.new.line
+    (take c.in_ok-count.count c.read.new.buf) c.in_ok-count.ensures.bytes.0 piece.rest (λ lines bytes took under. c.in_ok-pause.ensures _ (piece.taken lines bytes took under)) in
+    (fed, omega arith)
 
-pub returns-in_err-take_last : goal.returns-in_err-take_last
-returns-in_err-take_last g c =
-    IfOk-from_err c.from_residual-in_err-take_last.result _ c.from_residual-in_err-take_last.ensures.0
+-- all lines of what was read are taken
+read : (g : Over) (c : goal.After-drop-line-inside-then-count-eq0 g) (lines : List (List ℕ)) → g.T.LineTaker.took c.args.taker.now lines
+    → g.T.LineTaker.took c.take_last.new.taker (lines ++ lines_in c.loop.invariant.0.read)
+read g c = fed_last g.T.LineTaker.took _ _ _ c.loop.taker c.loop.line c.loop.invariant.0 c.take_last.new.taker c.in_ok-take_last.ensures
 
--- where the input has ended: some lines more were taken, and some bytes of a last one
-at_end : (g : Over) (c : goal.After-drop-line-2 g) (lines : List (List ℕ)) → g.T.LineTaker.took c.args.taker.now lines
-    → (more : List (List ℕ)) × (bytes : List ℕ) × g.T.LineTaker.took c.loop-test.taker (lines ++ more) × Took c.loop-test.line bytes
-at_end g c lines took =
-    let found = c.loop.invariant lines took in
-    elim c.loop-test.branch [
-      | else-loop-test w ↦ (
-        found.0,
-        found.1,
-        subst (λ taker. g.T.LineTaker.took taker (lines ++ found.0)) (sym w.taker-is) found.2,
-        subst (λ line. Took line found.1) (sym w.line-is) found.3,
-      )
-      | then-loop-test+in_ok-take_chunk+then-not-branch w ↦
-          let next = w.in_ok-take_chunk.ensures (lines ++ found.0) found.1 found.2 found.3 in (
-            found.0 ++ next.0,
-            next.1,
-            subst (λ taker. g.T.LineTaker.took taker (lines ++ (found.0 ++ next.0))) (sym w.taker-is) (subst (g.T.LineTaker.took w.take_chunk.new.taker) (append_assoc lines found.0 next.0) next.2),
-            subst (λ line. Took line next.1) (sym w.line-is) next.3,
-          )
-    ]
+pub returns-then-count-eq0-clause-more : goal.returns-then-count-eq0-clause-more
+returns-then-count-eq0-clause-more g c lines took = (lines_in c.loop.invariant.0.read, read g c lines took)
 
-pub returns : goal.returns
-returns g c lines took =
-    let found = at_end g c lines took in
-    let last = c.in_ok-take_last.ensures (lines ++ found.0) found.1 found.2 found.3 in
-    (found.0 ++ last_line found.1, subst (g.T.LineTaker.took c.take_last.new.taker) (append_assoc lines found.0 (last_line found.1)) last)
+pub returns-then-count-eq0-clause-all : goal.returns-then-count-eq0-clause-all
+returns-then-count-eq0-clause-all g c lines bytes took known =
+    let left = g.R.Read.remaining c.loop.input in
+    let left' = g.R.Read.remaining c.read.new.self in
+    let given = subst (λ n. Consumes left left' (take n c.read.new.buf)) c.if-count-eq0.true c.in_ok-count.ensures.bytes.0 in
+    let room : 0 < length c.read.new.buf = omega arith in
+    let end = c.in_ok-count.ensures.bytes.1 c.if-count-eq0.true room in
+    let all = fed_all g.T.LineTaker.took _ _ left c.loop.taker c.loop.line c.loop.invariant.0 left' given end bytes known in
+    subst (λ l. g.T.LineTaker.took c.take_last.new.taker (lines ++ lines_in l)) all.0 (read g c lines took)

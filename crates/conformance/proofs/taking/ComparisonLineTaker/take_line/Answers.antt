@@ -8,12 +8,12 @@ returns-then-is_some c lines bytes known took =
     let found = some_found c.args.self.now.first (sym c.if-is_some.ensures) in
     compared_kept c.args.self.now _ lines bytes known found.0 found.1 refl refl
 
-pub returns-in-Some : goal.returns-in-Some
-returns-in-Some c lines bytes known took =
+pub returns-in-Err : goal.returns-in-Err
+returns-in-Err c lines bytes known took =
     let none = none_found c.args.self.now.first (sym c.if-is_some.ensures) in
-    compared_differs c.args.self.now _ lines bytes known none c.in-Some.difference (c.in-Some.ensures bytes took) refl refl
+    compared_differs c.args.self.now _ lines bytes known none c.in-Err.difference (c.in-Err.ensures bytes took) refl refl
 
-pub returns-in-None : goal.returns-in-None
-returns-in-None c lines bytes known took =
+pub returns-in-Ok : goal.returns-in-Ok
+returns-in-Ok c lines bytes known took =
     let none = none_found c.args.self.now.first (sym c.if-is_some.ensures) in
-    compared_agrees c.args.self.now _ lines bytes known none (c.in-None.ensures bytes took) none c.saturating_add-self.ensures
+    compared_agrees c.args.self.now _ lines bytes known none (c.in-Ok.ensures bytes took) none c.saturating_add-self.ensures

@@ -1,21 +1,16 @@
-use Rattle.std.proofs.Common.{vec_items, ◌∙◌, arith}
-use Rattle.input.proofs.Taking.{kept_more, still_short, kept_full, now_long}
+use Rattle.std.proofs.Common.{[], ◌∷◌, ◌++◌, length, sym, ap, ◌∙◌}
+use Rattle.std.proofs.lemmas.Bool.{leb-true, leb-false}
+use Rattle.input.specs.Limits.{line_limit}
+use Rattle.input.proofs.Taking.{kept_more, kept_full}
 use Rattle.input.proofs.line.Line.take.Goals as goal
 
-pub returns-then-len-lt-LINE_LIMIT : goal.returns-then-len-lt-LINE_LIMIT
-returns-then-len-lt-LINE_LIMIT c bytes took =
-    let kept = vec_items c.args.self.now.bytes in
-    record {
-      kept =
-          c.push_reserved.ensures.items
-          ∙ kept_more bytes c.args.byte kept took.kept (omega (arith, c.args.self.now.bytes.ok.0));
-      long = took.long ∙ still_short bytes c.args.byte kept took.kept (omega (arith, c.args.self.now.bytes.ok.0));
-    }
+pub returns-then-is_whole : goal.returns-then-is_whole
+returns-then-is_whole c bytes took =
+    let kept = c.args.self.now in
+    c.push_reserved.ensures.items ∙ ap (λ l. l ++ c.args.byte ∷ []) c.self.view_is
+    ∙ kept_more line_limit bytes kept took c.args.byte (leb-true (length kept) line_limit (sym c.if-is_whole.ensures.kept))
 
-pub returns-else-len-lt-LINE_LIMIT : goal.returns-else-len-lt-LINE_LIMIT
-returns-else-len-lt-LINE_LIMIT c bytes took =
-    let kept = vec_items c.args.self.now.bytes in
-    record {
-      kept = kept_full bytes c.args.byte kept took.kept (omega (arith, c.args.self.now.bytes.ok.0));
-      long = now_long bytes c.args.byte kept took.kept (omega (arith, c.args.self.now.bytes.ok.0));
-    }
+pub returns-else-is_whole : goal.returns-else-is_whole
+returns-else-is_whole c bytes took =
+    let kept = c.args.self.now in
+    kept_full line_limit bytes kept took c.args.byte (leb-false (length kept) line_limit (sym c.if-is_whole.ensures.kept))

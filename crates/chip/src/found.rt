@@ -1,0 +1,40 @@
+// What a line holds.
+use codecs::{Der, Described, Identifier, Notation, Text};
+use input::Pairs;
+use std::fmt;
+
+#[derive(Clone, Copy)]
+pub enum Found {
+    // A sticker's identifier.
+    Sticker(Identifier),
+    // A chip's identifier, how many bytes of the content it took, and how many are left.
+    Chip {
+        identifier: Identifier,
+        taken: usize,
+        left: usize,
+    },
+}
+
+impl fmt::Display for Found {
+    fn fmt<W: fmt::Write>(&self, f: &mut fmt::Formatter<W>) -> fmt::Result {
+        match self {
+            Found::Sticker(identifier) => {
+                let described = Described(*identifier);
+                let page = Der::page(identifier);
+                let encoding = Pairs {
+                    bytes: page.as_slice(),
+                    between: "",
+                };
+                write!(f, "{described} der {encoding}")
+            }
+            Found::Chip {
+                identifier,
+                taken,
+                left,
+            } => {
+                let text = Text(identifier);
+                write!(f, "{text} taken {taken} left {left}")
+            }
+        }
+    }
+}

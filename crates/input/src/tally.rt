@@ -1,0 +1,41 @@
+// How many lines were read, and how many of them refused.
+ghost use Rattle.std.specs.Prelude.{ℕ, Bool, List, []};
+ghost use Rattle.input.specs.Counting.{Counts, Tallied};
+
+use std::fmt;
+
+// The counts; one that can grow no more stays.
+#[derive(Clone, Copy, Debug)]
+pub struct Tally {
+    pub read: u64,
+    pub refused: u64,
+}
+
+impl Tally {
+    // A tally that has counted no line yet.
+    pub fn new() -> Tally
+        ensures { (good : List ℕ → Bool) → Tallied result good [] }
+    {
+        Tally {
+            read: 0,
+            refused: 0,
+        }
+    }
+
+    // Counts a line, by whether it was read as an identifier.
+    pub fn count(&mut self, is_read: bool)
+        ensures { Counts self.old is_read self.new }
+    {
+        self.read = self.read.saturating_add(1);
+        if !is_read {
+            self.refused = self.refused.saturating_add(1);
+        }
+    }
+}
+
+impl fmt::Display for Tally {
+    fn fmt<W: fmt::Write>(&self, f: &mut fmt::Formatter<W>) -> fmt::Result {
+        let Tally { read, refused } = self;
+        write!(f, "{read} read, {refused} refused")
+    }
+}
