@@ -1,5 +1,5 @@
 -- How lines are counted.
-use Rattle.std.specs.Prelude.{◌≡◌, ℕ, ◌+◌, ◌-◌, ◌^◌, min, Bool, not, cond, List, length, count_by}
+use Rattle.std.specs.Prelude.{◌≡◌, ℕ, ◌+◌, ◌-◌, ◌^◌, min, Bool, not, cond, List, ◌++◌, length, codes, decimal, count_by}
 use Rattle.input.specs.declared.tally.Tally.{Tally}
 
 -- a count that can grow no more stays
@@ -15,3 +15,7 @@ pub record Counts (before : Tally) (is_good : Bool) (after : Tally) : Type 0 whe
 pub record Tallied (tally : Tally) (good : List ℕ → Bool) (lines : List (List ℕ)) : Type 0 where
   pub read : tally.read ≡ min (length lines) most_counted
   pub refused : tally.refused ≡ min (count_by (λ line. not (good line)) lines) most_counted
+
+-- a tally in words, as the programs print it
+abbrev pub counts_said : Tally → List ℕ
+counts_said tally = decimal tally.read ++ (codes " read, " ++ (decimal tally.refused ++ codes " refused"))

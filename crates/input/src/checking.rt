@@ -1,7 +1,8 @@
 // Lines checked, counted and answered, one after the other.
-ghost use Rattle.std.specs.Prelude.{◌≡◌, ℕ, Bool, List, [], ◌∷◌, ◌++◌, Some, is_ok, IfOk, OnOk};
-ghost use Rattle.input.specs.Counting.{Counts, Tallied};
+ghost use Rattle.std.specs.Prelude.{◌≡◌, ℕ, Bool, List, [], ◌∷◌, ◌++◌, Some, is_ok, IfOk, OnOk, codes};
+ghost use Rattle.input.specs.Counting.{Counts, Tallied, counts_said};
 ghost use Rattle.input.specs.Lines.{Took, lines_in};
+ghost use Rattle.std.specs.Io.KnownBytes.{Appends};
 
 use crate::feed::{LineTaker, read_lines};
 use crate::line::Line;
@@ -78,7 +79,8 @@ pub fn check_lines<C: Checker + Drop, R: Read, W: Write + Drop>(
 impl<C, W: Write> Checked<C, W> {
     // Writes the counts behind the answers.
     pub fn finish(&mut self) -> io::Result<()>
-        ensures { self.new.tally ≡ self.old.tally }
+        ensures same { self.new.tally ≡ self.old.tally }
+        ensures written { OnOk result (Appends (W.contents self.old.out) (W.contents self.new.out) (counts_said self.old.tally ++ codes "\n")) }
     {
         let tally = self.tally;
         writeln!(self.out, "{tally}")?;

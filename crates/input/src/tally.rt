@@ -1,6 +1,6 @@
 // How many lines were read, and how many of them refused.
-ghost use Rattle.std.specs.Prelude.{ℕ, Bool, List, []};
-ghost use Rattle.input.specs.Counting.{Counts, Tallied};
+ghost use Rattle.std.specs.Prelude.{ℕ, Bool, List, [], Some};
+ghost use Rattle.input.specs.Counting.{Counts, Tallied, counts_said};
 
 use std::fmt;
 
@@ -34,6 +34,8 @@ impl Tally {
 }
 
 impl fmt::Display for Tally {
+    ghost output = { λ tally. Some (counts_said tally) };
+
     fn fmt<W: fmt::Write>(&self, f: &mut fmt::Formatter<W>) -> fmt::Result {
         let Tally { read, refused } = self;
         write!(f, "{read} read, {refused} refused")

@@ -10,9 +10,9 @@ use input::{Checker, Line};
 
 // Takes each line for a sticker's text or a chip's content.
 #[derive(Clone, Copy)]
-pub struct Stickers;
+pub struct StickersAndChips;
 
-impl Checker for Stickers {
+impl Checker for StickersAndChips {
     ghost good = { good_line };
 
     type Found = Found;
