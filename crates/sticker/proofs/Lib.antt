@@ -1,1 +1,1 @@
-mod Judged
+pub mod Judged

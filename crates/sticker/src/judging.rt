@@ -1,28 +1,61 @@
-// The verdict on a line.
-ghost use Rattle.std.specs.Prelude.{◌≡◌, ℕ, List, Some};
-ghost use Rattle.dotted.specs.Reading.{read_dotted};
+// What a line holds, or why it holds nothing.
+ghost use Rattle.std.specs.Prelude.{◌≡◌, ℕ, ◌≤◌, List, length};
+ghost use Rattle.input.specs.Limits.{line_limit};
 ghost use Rattle.input.specs.Lines.{Took};
-ghost use Rattle.sticker.specs.Verdicts.{said, verdict_on};
+ghost use Rattle.sticker.specs.Answers.{said, on_text, on_content, on_digits, on_line};
 
+use crate::found::Found;
 use crate::trouble::Trouble;
-use input::Line;
-use oid::Identifier;
+use codecs::{Identifier, read_der, read_dotted};
+use input::{Line, content_of};
 
-// The verdict on a line that has ended.
-pub fn judge(line: &Line) -> Result<Identifier, Trouble>
-    ensures { (bytes : List ℕ) → Took line.now bytes → said result ≡ verdict_on bytes }
+// What a chip's line begins with.
+const CHIP_WORD: &[u8; 4] = b"der ";
+
+// Reads a line that has ended.
+pub fn judge(line: &Line) -> Result<Found, Trouble>
+    ensures { (bytes : List ℕ) → Took line.now bytes → said result ≡ on_line bytes }
 {
-    match line.whole() {
-        Some(text) => judge_text(text),
-        None => Err(Trouble::Long),
+    let Some(bytes) = line.whole() else {
+        return Err(Trouble::Long);
+    };
+    match bytes.strip_prefix(CHIP_WORD) {
+        Some(digits) => judge_digits(digits),
+        None => judge_text(bytes),
     }
 }
 
-// Reads a text that is not too long.
-fn judge_text(text: &[u8]) -> Result<Identifier, Trouble>
-    ensures { said result ≡ Some (read_dotted text.now) }
+// Reads a sticker's text.
+fn judge_text(text: &[u8]) -> Result<Found, Trouble>
+    ensures { said result ≡ on_text text.now }
 {
     let mut identifier = Identifier::smallest();
-    dotted::read(text, &mut identifier)?;
-    Ok(identifier)
+    read_dotted(text, &mut identifier)?;
+    Ok(Found::Sticker(identifier))
+}
+
+// Reads the digits of a chip's line.
+fn judge_digits(digits: &[u8]) -> Result<Found, Trouble>
+    requires { length digits.now ≤ line_limit }
+    ensures { said result ≡ on_digits digits.now }
+{
+    match content_of(digits) {
+        Ok(content) => judge_content(content.as_slice()),
+        Err(unpaired) => Err(Trouble::NotHex {
+            offset: CHIP_WORD.len() + unpaired.offset,
+        }),
+    }
+}
+
+// Reads a chip's content.
+fn judge_content(content: &[u8]) -> Result<Found, Trouble>
+    ensures { said result ≡ on_content content.now }
+{
+    let mut identifier = Identifier::smallest();
+    let taken = read_der(content, &mut identifier)?;
+    Ok(Found::Chip {
+        identifier,
+        taken,
+        left: content.len() - taken,
+    })
 }

@@ -1,17 +1,19 @@
-// Why a line is no sticker.
+// Why a line holds no identifier.
 ghost use Rattle.std.specs.Prelude.{◌≡◌};
 ghost use Rattle.sticker.specs.declared.trouble.Trouble.TheVariants.{Faulty};
 
+use codecs::Fault;
 use input::TooLong;
-use oid::Fault;
 use std::error::Error;
 use std::fmt;
 
 #[derive(Clone, Copy, PartialEq, Eq, Debug)]
 pub enum Trouble {
-    // Its text is refused.
+    // The text or the content is refused.
     Faulty(Fault),
-    // It has more bytes than may be read.
+    // A chip's line has a byte at this offset that is no digit of a pair.
+    NotHex { offset: usize },
+    // The line has more bytes than may be read.
     Long,
 }
 
@@ -27,6 +29,10 @@ impl fmt::Display for Trouble {
     fn fmt<W: fmt::Write>(&self, f: &mut fmt::Formatter<W>) -> fmt::Result {
         match self {
             Trouble::Faulty(fault) => write!(f, "{fault}"),
+            Trouble::NotHex { offset } => write!(
+                f,
+                "hex {offset} the byte here is no hexadecimal digit of a pair"
+            ),
             Trouble::Long => write!(f, "{TooLong}"),
         }
     }

@@ -1,7 +1,7 @@
 // Stickers and chips as lines to be checked.
 ghost use Rattle.std.specs.Prelude.{◌≡◌, ℕ, List, is_ok};
 ghost use Rattle.input.specs.Lines.{Took};
-ghost use Rattle.chip.specs.Answers.{said, on_line, good_line};
+ghost use Rattle.sticker.specs.Answers.{said, on_line, good_line};
 
 use crate::found::Found;
 use crate::judging::judge;

@@ -8,10 +8,10 @@ use Rattle.der.specs.Header.{taken_in}
 use Rattle.der.specs.Reading.{read_der}
 use Rattle.input.specs.Hex.{unpaired, pairs_in}
 use Rattle.input.specs.Limits.{line_limit}
-use Rattle.chip.specs.declared.trouble.Trouble.{Trouble}
-use Rattle.chip.specs.declared.trouble.Trouble.TheVariants.{Faulty, NotHex, Long}
-use Rattle.chip.specs.declared.found.Found.{Found}
-use Rattle.chip.specs.declared.found.Found.TheVariants.{Sticker, Chip}
+use Rattle.sticker.specs.declared.trouble.Trouble.{Trouble}
+use Rattle.sticker.specs.declared.trouble.Trouble.TheVariants.{Faulty, NotHex, Long}
+use Rattle.sticker.specs.declared.found.Found.{Found}
+use Rattle.sticker.specs.declared.found.Found.TheVariants.{Sticker, Chip}
 
 -- The answers: a sticker with its arcs; a chip with its arcs, the bytes taken and those left; a fault; a byte at this
 -- offset of the line that is no digit of a pair; a line that is too long.

@@ -1,7 +1,7 @@
 use Rattle.std.proofs.Common.{ap, arith}
 use Rattle.std.specs.Result.{result_unwrap_or}
 use Rattle.der.proofs.Theorems.{taken_within}
-use Rattle.chip.proofs.judging.judge_content.Goals as goal
+use Rattle.sticker.proofs.judging.judge_content.Goals as goal
 
 pub overflow_sub-result : goal.overflow_sub-result
 overflow_sub-result c =

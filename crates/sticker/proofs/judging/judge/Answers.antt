@@ -3,9 +3,9 @@ use Rattle.std.proofs.lemmas.Bool.Decides.{Decides-eqb}
 use Rattle.std.proofs.lemmas.Option.{MatchOption-at_some, MatchOption-at_none}
 use Rattle.std.proofs.lemmas.Slice.Eq.{strip_prefix_is}
 use Rattle.input.specs.Limits.{line_limit}
-use Rattle.chip.specs.Answers.{chip_word, on_text}
-use Rattle.chip.proofs.Judged.{line_chip, line_text}
-use Rattle.chip.proofs.judging.judge.Goals as goal
+use Rattle.sticker.specs.Answers.{chip_word, on_text}
+use Rattle.sticker.proofs.Judged.{line_chip, line_text}
+use Rattle.sticker.proofs.judging.judge.Goals as goal
 
 pub returns-in-Some-strip_prefix : goal.returns-in-Some-strip_prefix
 unfolding chip_word

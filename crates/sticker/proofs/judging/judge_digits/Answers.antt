@@ -1,7 +1,7 @@
 use Rattle.std.proofs.Common.{sym, ap, arith}
 use Rattle.input.proofs.Digits.{unpaired_within}
-use Rattle.chip.specs.Answers.{chip_word, by_pairs}
-use Rattle.chip.proofs.judging.judge_digits.Goals as goal
+use Rattle.sticker.specs.Answers.{chip_word, by_pairs}
+use Rattle.sticker.proofs.judging.judge_digits.Goals as goal
 
 pub overflow_add-result : goal.overflow_add-result
 overflow_add-result c =
