@@ -2,6 +2,7 @@
 ghost use Rattle.std.specs.Prelude.{Some};
 ghost use Rattle.oid.specs.Meaning.{arcs_of};
 ghost use Rattle.dotted.specs.Writing.{dotted_text};
+ghost use Rattle.codecs.specs.Printed.{described};
 
 use crate::notation::{Dotted, Notation};
 use oid::Identifier;
@@ -25,6 +26,8 @@ impl fmt::Display for Text<'_> {
 pub struct Described(pub Identifier);
 
 impl fmt::Display for Described {
+    ghost output = { λ d. Some (described (arcs_of d.0)) };
+
     fn fmt<W: fmt::Write>(&self, f: &mut fmt::Formatter<W>) -> fmt::Result {
         let text = Text(&self.0);
         let count = self.0.len();

@@ -1,7 +1,9 @@
 -- A comparison, one line more.
 use Rattle.std.proofs.Common.{◌≡◌, ℕ, ◌+◌, ◌-◌, ◌^◌, min, List, [], ◌∷◌, ◌++◌, Some, None, Option, sym, refl, ap, ◌∙◌, arith}
+use Rattle.std.proofs.lemmas.List.{append-nil}
 use Rattle.conformance.specs.Comparing.{count_by, agreeing, first_by, first_difference, Compared}
 use Rattle.conformance.specs.Differences.{from_line}
+use Rattle.conformance.specs.Output.{agreed_text, first_text, comparison_text}
 use Rattle.conformance.specs.declared.comparison.Comparison.{Comparison}
 use Rattle.conformance.specs.declared.difference.Difference.{Difference}
 
@@ -80,3 +82,10 @@ module _ (before after : Comparison) (lines : List (List ℕ)) (line : List ℕ)
           agreed = omega (arith, more, known.agreed, counted);
           first = still ∙ sym (first_push lines line ∙ (λ k. first_by (so_far k) (sym e k)));
         }
+
+-- what is said where none differs
+pub agreed_said : (comparison : Comparison) (lines : List (List ℕ)) → Compared comparison lines → comparison.first ≡ None
+    → comparison_text comparison ≡ agreed_text (min (agreeing lines) (2 ^ 64 - 1))
+agreed_said comparison lines known none =
+    ap (λ first. agreed_text comparison.agreed ++ first_text comparison.agreed first) none
+    ∙ append-nil (agreed_text comparison.agreed) ∙ ap agreed_text known.agreed

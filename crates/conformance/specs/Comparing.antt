@@ -1,5 +1,5 @@
 -- A comparison with all lines, up to the first that differs.
-use Rattle.std.specs.Prelude.{◌≡◌, ℕ, ◌+◌, ◌-◌, ◌^◌, min, List, [], ◌∷◌, Some, None, Option}
+use Rattle.std.specs.Prelude.{◌≡◌, ℕ, ◌+◌, ◌-◌, ◌^◌, min, List, [], ◌∷◌, ◌++◌, Some, None, Option}
 use Rattle.conformance.specs.Differences.{from_line}
 use Rattle.conformance.specs.declared.comparison.Comparison.{Comparison}
 use Rattle.conformance.specs.declared.difference.Difference.{Difference}
@@ -26,3 +26,7 @@ first_difference (line ∷ lines) = first_by (from_line line) (first_difference 
 pub record Compared (comparison : Comparison) (lines : List (List ℕ)) : Type 0 where
   pub agreed : comparison.agreed ≡ min (agreeing lines) (2 ^ 64 - 1)
   pub first : comparison.first ≡ first_difference lines
+
+-- the comparison went on with these lines: whatever it was given before, it was given them too
+abbrev pub GoesOn : Comparison → List (List ℕ) → Comparison → Type 0
+GoesOn before lines after = (earlier : List (List ℕ)) → Compared before earlier → Compared after (earlier ++ lines)

@@ -1,4 +1,7 @@
 // How we may differ from a line.
+ghost use Rattle.std.specs.Prelude.{Some};
+ghost use Rattle.conformance.specs.Output.{words_of};
+
 use std::error::Error;
 use std::fmt;
 
@@ -17,6 +20,8 @@ pub enum Difference {
 }
 
 impl fmt::Display for Difference {
+    ghost output = { λ difference. Some (words_of difference) };
+
     fn fmt<W: fmt::Write>(&self, f: &mut fmt::Formatter<W>) -> fmt::Result {
         f.write_str(match self {
             Difference::Form => "it is not a mark, a text and pairs of hexadecimal digits",

@@ -1,7 +1,9 @@
 // Lines taken into a comparison.
-ghost use Rattle.std.specs.Prelude.{◌≡◌, ℕ, List, Some, IfOk};
+ghost use Rattle.std.specs.Prelude.{◌≡◌, ℕ, List, ◌++◌, Some, IfOk};
+ghost use Rattle.std.proofs.Common.{sym, subst, append_assoc};
+ghost use Rattle.std.proofs.lemmas.List.{append-nil};
 ghost use Rattle.input.specs.Lines.{lines_in};
-ghost use Rattle.conformance.specs.Comparing.{Compared};
+ghost use Rattle.conformance.specs.Comparing.{Compared, GoesOn};
 
 use crate::comparison::Comparison;
 use crate::judging::compare_line;
@@ -11,7 +13,7 @@ use std::io;
 use std::io::Read;
 
 impl LineTaker for Comparison {
-    ghost took = { λ comparison lines. Compared comparison lines };
+    ghost taken = { GoesOn };
 
     fn take_line(&mut self, line: &Line) -> io::Result<()> {
         if self.first.is_some() {
@@ -27,6 +29,11 @@ impl LineTaker for Comparison {
     fn pause(&mut self) -> io::Result<()> {
         Ok(())
     }
+
+    ghost none = { λ comparison earlier given. subst (Compared comparison) (sym (append-nil earlier)) given };
+
+    ghost further = { λ first second third lines more one two earlier given.
+        subst (Compared third) (append_assoc earlier lines more) (two (earlier ++ lines) (one earlier given)) };
 }
 
 // All lines of the input compared, up to the first that differs.

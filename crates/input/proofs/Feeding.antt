@@ -1,5 +1,5 @@
 -- Input in pieces: the lines that they end together, and how far it is read.
-use Rattle.std.proofs.Common.{◌≡◌, ℕ, ◌+◌, ◌<◌, Bool, true, false, cond, eqb, List, [], ◌∷◌, ◌++◌, length, get_or, take, Some, None, Option, sym, refl, ap, ◌∙◌, subst, append_assoc}
+use Rattle.std.proofs.Common.{◌≡◌, ℕ, ◌+◌, ◌<◌, Bool, true, false, cond, eqb, List, [], ◌∷◌, ◌++◌, length, get_or, take, Some, None, Option, sym, refl, ap, ◌∙◌, subst}
 use Rattle.std.specs.Io.KnownBytes.{Consumes, IsAtEnd}
 use Rattle.std.proofs.KnownBytes.{Consumes-nil, Consumes-trans}
 use Rattle.std.proofs.lemmas.List.{append-nil, take_more}
@@ -65,47 +65,38 @@ all_read (Some left) (Some rest) read bytes given end known =
     let same : left ≡ bytes = cc in
     (sym (append-nil read) ∙ ap (λ l. read ++ l) (sym end) ∙ sym given ∙ same, ap Some end)
 
-module _ {Taker : Type 0} (took : Taker → List (List ℕ) → Type 0) (known : Option (List ℕ)) (before : Taker) where
+module _ {Taker : Type 0} (taken : Taker → List (List ℕ) → Taker → Type 0) (known : Option (List ℕ)) (before : Taker) where
   -- how far input is read: a reader gave these bytes, a taker took the lines that they end, and a line the rest
   pub record Fed (left : Option (List ℕ)) (taker : Taker) (line : List ℕ) : Type 0 where
     pub read : List ℕ
     pub given : Consumes known left read
     pub rest : Took line (underway [] read)
-    pub taken : (lines : List (List ℕ)) → took before lines → took taker (lines ++ ended [] read)
+    pub lines : taken before (ended [] read) taker
 
-  pub fed_none : (line : List ℕ) → Took line [] → Fed known before line
+  pub fed_none : (line : List ℕ) → taken before [] before → Took line [] → Fed known before line
   unfolding ended underway
-  fed_none line begun = record {
-    read = [];
-    given = Consumes-nil known;
-    rest = begun;
-    taken = λ lines h. subst (took before) (sym (append-nil lines)) h;
-  }
+  fed_none line none begun = record { read = []; given = Consumes-nil known; rest = begun; lines = none }
 
-  module _ (left : Option (List ℕ)) (taker : Taker) (line : List ℕ) (fed : Fed left taker line) where
+  module _ (further : (first second third : Taker) (lines more : List (List ℕ)) → taken first lines second → taken second more third → taken first (lines ++ more) third) (left : Option (List ℕ)) (taker : Taker) (line : List ℕ) (fed : Fed left taker line) where
     pub fed_more : (left' : Option (List ℕ)) (taker' : Taker) (line' piece : List ℕ) → Consumes left left' piece
         → ((bytes : List ℕ) → Took line bytes → Took line' (underway bytes piece))
-        → ((lines : List (List ℕ)) (bytes : List ℕ) → took taker lines → Took line bytes → took taker' (lines ++ ended bytes piece))
+        → ((bytes : List ℕ) → Took line bytes → taken taker (ended bytes piece) taker')
         → Fed left' taker' line'
     fed_more left' taker' line' piece given rests takes = record {
       read = fed.read ++ piece;
       given = Consumes-trans known left left' fed.read piece fed.given given;
       rest = subst (Took line') (sym (underway-append [] fed.read piece)) (rests (underway [] fed.read) fed.rest);
-      taken = λ lines h.
-          subst (took taker') (append_assoc lines (ended [] fed.read) (ended (underway [] fed.read) piece) ∙ ap (λ l. lines ++ l) (sym (ended-append [] fed.read piece)))
-          (takes (lines ++ ended [] fed.read) (underway [] fed.read) (fed.taken lines h) fed.rest);
+      lines = subst (λ l. taken before l taker') (sym (ended-append [] fed.read piece))
+          (further before taker taker' (ended [] fed.read) (ended (underway [] fed.read) piece) fed.lines (takes (underway [] fed.read) fed.rest));
     }
 
     -- with the last line, these are all lines of what was read
-    pub fed_last : (taker' : Taker)
-        → ((lines : List (List ℕ)) (bytes : List ℕ) → took taker lines → Took line bytes → took taker' (lines ++ last_line bytes))
-        → (lines : List (List ℕ)) → took before lines → took taker' (lines ++ lines_in fed.read)
-    fed_last taker' takes lines h =
-        subst (took taker') (append_assoc lines (ended [] fed.read) (last_line (underway [] fed.read)))
-        (takes (lines ++ ended [] fed.read) (underway [] fed.read) (fed.taken lines h) fed.rest)
+    pub fed_last : (taker' : Taker) → ((bytes : List ℕ) → Took line bytes → taken taker (last_line bytes) taker') → taken before (lines_in fed.read) taker'
+    fed_last taker' takes =
+        further before taker taker' (ended [] fed.read) (last_line (underway [] fed.read)) fed.lines (takes (underway [] fed.read) fed.rest)
 
-    -- where a reader gives nothing more, that is all that it had
-    pub fed_all : (left' : Option (List ℕ)) → Consumes left left' [] → IsAtEnd left' → (bytes : List ℕ) → known ≡ Some bytes
-        → (fed.read ≡ bytes) × (left' ≡ Some [])
-    fed_all left' given end bytes e =
-        all_read known left' fed.read bytes (subst (Consumes known left') (append-nil fed.read) (Consumes-trans known left left' fed.read [] fed.given given)) end e
+  -- where a reader gives nothing more, that is all that it had
+  pub fed_all : (left left' : Option (List ℕ)) (taker : Taker) (line : List ℕ) (fed : Fed left taker line) → Consumes left left' [] → IsAtEnd left'
+      → (bytes : List ℕ) → known ≡ Some bytes → (fed.read ≡ bytes) × (left' ≡ Some [])
+  fed_all left left' taker line fed given end bytes e =
+      all_read known left' fed.read bytes (subst (Consumes known left') (append-nil fed.read) (Consumes-trans known left left' fed.read [] fed.given given)) end e

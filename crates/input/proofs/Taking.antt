@@ -1,7 +1,7 @@
 -- A line, one byte more, and the last one.
 use Rattle.std.proofs.Common.{◌≡◌, ℕ, ◌+◌, ◌<◌, ◌≤◌, min, true, false, eqb, leb, List, [], ◌∷◌, ◌++◌, length, take, sym, refl, ap, ◌∙◌, ⊎_elim, arith}
 use Rattle.std.proofs.lemmas.List.{length_push, length-take, take_all, take-take, take-append-le}
-use Rattle.std.proofs.lemmas.Bool.{both_ways, lt-leb, cases_lt}
+use Rattle.std.proofs.lemmas.Bool.{both_ways, eqb-true, lt-leb, cases_lt}
 use Rattle.input.specs.Lines.{last_line}
 
 -- a line that keeps the first bytes that it took: as many as may be read, and one more
@@ -34,7 +34,11 @@ module _ (limit : ℕ) (bytes kept : List ℕ) (took : kept ≡ take (limit + 1)
     pub kept_full : limit < length kept → kept ≡ take (limit + 1) (bytes ++ byte ∷ [])
     kept_full long = took ∙ sym (take-append-le (limit + 1) bytes (byte ∷ []) (omega (arith, count)))
 
--- a last line with any byte is one
+-- a last line without a byte is none, and with any byte it is one
+pub last_none : (bytes : List ℕ) → eqb (length bytes) 0 ≡ true → last_line bytes ≡ []
+last_none [] e = refl
+last_none (byte ∷ rest) e = let no : ⊥ = omega (arith, eqb-true (length (byte ∷ rest)) 0 e) in absurd no
+
 pub last_some : (bytes : List ℕ) → eqb (length bytes) 0 ≡ false → last_line bytes ≡ bytes ∷ []
 last_some [] e = absurd (both_ways true e refl)
 last_some (byte ∷ rest) e = refl

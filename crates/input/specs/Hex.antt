@@ -1,7 +1,8 @@
 -- Pairs of hexadecimal digits, in capitals or small letters.
-use Rattle.std.specs.Prelude.{ℕ, ◌+◌, ◌-◌, ◌*◌, ◌%◌, Bool, not, cond, List, [], ◌∷◌, ◌++◌, length, drop, position, Some, None, Option, ◌==◌, nat_le}
+use Rattle.std.specs.Prelude.{ℕ, ◌+◌, ◌-◌, ◌*◌, ◌/◌, ◌%◌, Bool, not, cond, List, [], ◌∷◌, ◌++◌, length, drop, position, Some, None, Option, ◌==◌, nat_le, nat_lt}
 use Rattle.std.specs.Char.{is_ascii_hexdigit}
 use Rattle.std.specs.Int.{is_in_range}
+use Rattle.std.specs.List.{flat_map}
 use Rattle.std.specs.Option.{option_or}
 
 -- a byte that is no digit: none of 0 to 9, A to F and a to f
@@ -33,3 +34,16 @@ pairs_read digits page = cond (pairs_fit digits page) (Some (length (pairs_in di
 -- the page after it: with the bytes at its front, or untouched
 abbrev pub page_after : List ℕ → List ℕ → List ℕ
 page_after digits page = cond (pairs_fit digits page) (pairs_in digits ++ drop (length (pairs_in digits)) page) page
+
+-- the digit that writes a value below 16, in capitals
+abbrev pub digit_of : ℕ → ℕ
+digit_of value = cond (nat_lt value 10) (48 + value) (55 + value)
+
+-- the pair that writes a byte
+abbrev pub pair_of : ℕ → List ℕ
+pair_of byte = digit_of (byte / 16) ∷ (digit_of (byte % 16) ∷ [])
+
+-- the pairs that write some bytes, with a text between neighbours
+abbrev pub pairs_of : List ℕ → List ℕ → List ℕ
+pairs_of between [] = []
+pairs_of between (byte ∷ bytes) = pair_of byte ++ flat_map (λ b. between ++ pair_of b) bytes

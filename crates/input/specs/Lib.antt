@@ -3,3 +3,4 @@ pub mod Lines
 pub mod Fields
 pub mod Hex
 pub mod Counting
+pub mod Answers

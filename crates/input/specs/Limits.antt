@@ -1,5 +1,5 @@
 -- Lines: what ends one, and how long it may be.
-use Rattle.std.specs.Prelude.{ℕ}
+use Rattle.std.specs.Prelude.{ℕ, List, ◌++◌, codes, decimal}
 
 -- a line of more bytes is not read
 abbrev pub line_limit : ℕ
@@ -8,3 +8,7 @@ line_limit = 4096
 -- the byte that ends a line
 abbrev pub line_feed : ℕ
 line_feed = 10
+
+-- what is printed of a longer one
+abbrev pub too_long_text : List ℕ
+too_long_text = codes "long " ++ (decimal line_limit ++ codes " the line has more bytes than that, and was not read")

@@ -1,8 +1,13 @@
 // Lines checked, counted and answered, one after the other.
-ghost use Rattle.std.specs.Prelude.{◌≡◌, ℕ, Bool, List, [], ◌∷◌, ◌++◌, Some, is_ok, IfOk, OnOk, codes};
-ghost use Rattle.input.specs.Counting.{Counts, Tallied, counts_said};
-ghost use Rattle.input.specs.Lines.{Took, lines_in};
+ghost use Rattle.std.specs.Prelude.{◌≡◌, ℕ, Bool, List, [], ◌∷◌, ◌++◌, Some, is_ok, IfOk, OnOk, codes, refl};
 ghost use Rattle.std.specs.Io.KnownBytes.{Appends};
+ghost use Rattle.std.proofs.Common.{sym, ap, ◌∙◌, subst};
+ghost use Rattle.std.proofs.KnownBytes.{Appends-nil, Appends-trans};
+ghost use Rattle.std.proofs.lemmas.Grind.{flat_map-append};
+ghost use Rattle.std.proofs.lemmas.List.Sums.{fold-append};
+ghost use Rattle.input.specs.Answers.{answered, answers, report};
+ghost use Rattle.input.specs.Counting.{counted, all_counted, tally_of, counts_said};
+ghost use Rattle.input.specs.Lines.{Took, lines_in};
 
 use crate::feed::{LineTaker, read_lines};
 use crate::line::Line;
@@ -17,6 +22,9 @@ pub trait Checker {
     // whether a line is read as an identifier
     ghost good: { List ℕ → Bool };
 
+    // the answer to a line
+    ghost answer: { List ℕ → List ℕ };
+
     // What is printed of a line that is, and of one that is not.
     type Found: Display + Drop;
 
@@ -24,7 +32,9 @@ pub trait Checker {
 
     // What a line that has ended holds, or the trouble with it.
     fn check(&self, line: &Line) -> Result<Self::Found, Self::Trouble>
-        ensures is_read { (bytes : List ℕ) → Took line.now bytes → is_ok result ≡ good bytes };
+        ensures is_read { (bytes : List ℕ) → Took line.now bytes → is_ok result ≡ good bytes }
+        ensures says { (bytes : List ℕ) → Took line.now bytes
+            → answered Self.Found.output Self.Trouble.output result ≡ Some (answer bytes) };
 }
 
 // The lines so far, counted; answers are written as the lines come.
@@ -36,13 +46,15 @@ pub struct Checked<C, W> {
 }
 
 impl<C: Checker, W: Write> LineTaker for Checked<C, W> {
-    ghost took = { λ checked lines. Tallied checked.tally C.good lines };
+    ghost taken = { λ before lines after. (after.tally ≡ all_counted C.good lines before.tally)
+        × Appends (W.contents before.out) (W.contents after.out) (answers C.answer lines) };
 
     fn take_line(&mut self, line: &Line) -> io::Result<()>
-        ensures taken { OnOk result ((lines : List (List ℕ)) (bytes : List ℕ) → Tallied self.old.tally C.good lines
-            → Took line.now bytes → Tallied self.new.tally C.good (lines ++ bytes ∷ [])) }
+        ensures taken { OnOk result ((bytes : List ℕ) → Took line.now bytes
+            → (self.new.tally ≡ all_counted C.good (bytes ∷ []) self.old.tally)
+            × Appends (W.contents self.old.out) (W.contents self.new.out) (answers C.answer (bytes ∷ []))) }
         // Also where the answer could not be written.
-        ensures counts { (bytes : List ℕ) → Took line.now bytes → Counts self.old.tally (C.good bytes) self.new.tally }
+        ensures counts { (bytes : List ℕ) → Took line.now bytes → self.new.tally ≡ counted (C.good bytes) self.old.tally }
     {
         let answer = self.checker.check(line);
         self.tally.count(answer.is_ok());
@@ -55,17 +67,28 @@ impl<C: Checker, W: Write> LineTaker for Checked<C, W> {
     fn pause(&mut self) -> io::Result<()> {
         self.out.flush()
     }
+
+    ghost none = { λ checked. (refl, Appends-nil (W.contents checked.out)) };
+
+    ghost further = { λ first second third lines more one two. (
+      two.0 ∙ ap (all_counted C.good more) one.0
+          ∙ sym (fold-append (λ tally line. counted (C.good line) tally) first.tally lines more),
+      subst (Appends (W.contents first.out) (W.contents third.out)) (sym (flat_map-append (λ line. C.answer line ++ 10 ∷ []) lines more))
+          (Appends-trans (W.contents first.out) (W.contents second.out) (W.contents third.out) (answers C.answer lines) (answers C.answer more) one.1 two.1),
+    ) };
 }
 
-// All lines of the input, counted and answered.
+// All lines of the input, counted and answered, and the counts behind the answers.
 pub fn check_lines<C: Checker + Drop, R: Read, W: Write + Drop>(
     heap: Global,
     checker: C,
     input: &mut R,
     out: W,
 ) -> anyhow::Result<Checked<C, W>>
-    ensures { IfOk result (λ checked. (bytes : List ℕ) → R.remaining input.old ≡ Some bytes
-        → Tallied checked.tally C.good (lines_in bytes)) }
+    ensures tallied { IfOk result (λ checked. (bytes : List ℕ) → R.remaining input.old ≡ Some bytes
+        → checked.tally ≡ tally_of C.good (lines_in bytes)) }
+    ensures written { IfOk result (λ checked. (bytes : List ℕ) → R.remaining input.old ≡ Some bytes
+        → Appends (W.contents out) (W.contents checked.out) (report C.good C.answer (lines_in bytes))) }
 {
     let mut checked = Checked {
         tally: Tally::new(),
@@ -73,12 +96,13 @@ pub fn check_lines<C: Checker + Drop, R: Read, W: Write + Drop>(
         out,
     };
     read_lines(heap, input, &mut checked)?;
+    checked.finish()?;
     Ok(checked)
 }
 
 impl<C, W: Write> Checked<C, W> {
     // Writes the counts behind the answers.
-    pub fn finish(&mut self) -> io::Result<()>
+    fn finish(&mut self) -> io::Result<()>
         ensures same { self.new.tally ≡ self.old.tally }
         ensures written { OnOk result (Appends (W.contents self.old.out) (W.contents self.new.out) (counts_said self.old.tally ++ codes "\n")) }
     {

@@ -13,17 +13,22 @@ const CHUNK: usize = 4096;
 
 // What lines are handed to, one after the other.
 pub trait LineTaker {
-    // it has taken these lines
-    ghost took: { Self → List (List ℕ) → Type 0 };
+    // from the one state to the other it has taken these lines
+    ghost taken: { Self → List (List ℕ) → Self → Type 0 };
 
     // Takes a line that has ended.
     fn take_line(&mut self, line: &Line) -> io::Result<()>
-        ensures { OnOk result ((lines : List (List ℕ)) (bytes : List ℕ) → took self.old lines
-            → Took line.now bytes → took self.new (lines ++ bytes ∷ [])) };
+        ensures { OnOk result ((bytes : List ℕ) → Took line.now bytes → taken self.old (bytes ∷ []) self.new) };
 
     // Called where the input pauses: whoever waits for answers can have them.
     fn pause(&mut self) -> io::Result<()>
-        ensures { OnOk result ((lines : List (List ℕ)) → took self.old lines → took self.new lines) };
+        ensures { OnOk result (taken self.old [] self.new) };
+
+    // a taker that stays as it is has taken none
+    ghost none: { (taker : Self) → taken taker [] taker };
+
+    // lines and further lines are taken together
+    ghost further: { (first second third : Self) (lines more : List (List ℕ)) → taken first lines second → taken second more third → taken first (lines ++ more) third };
 }
 
 // Hands all lines of the input to a taker. A last line without a line feed is a line; nothing after the last line feed
@@ -33,11 +38,9 @@ pub fn read_lines<R: Read, T: LineTaker>(
     input: &mut R,
     taker: &mut T,
 ) -> anyhow::Result<()>
-    ensures more { OnOk result ((lines : List (List ℕ)) → T.took taker.old lines
-        → (more : List (List ℕ)) × T.took taker.new (lines ++ more)) }
-
-    ensures all { OnOk result ((lines : List (List ℕ)) (bytes : List ℕ) → T.took taker.old lines
-        → R.remaining input.old ≡ Some bytes → T.took taker.new (lines ++ lines_in bytes)) }
+    ensures more { OnOk result ((lines : List (List ℕ)) × T.taken taker.old lines taker.new) }
+    ensures all { OnOk result ((bytes : List ℕ) → R.remaining input.old ≡ Some bytes
+        → T.taken taker.old (lines_in bytes) taker.new) }
     ensures end { OnOk result ((bytes : List ℕ) → R.remaining input.old ≡ Some bytes
         → R.remaining input.new ≡ Some []) }
 {
@@ -57,8 +60,7 @@ pub fn read_lines<R: Read, T: LineTaker>(
 
 // Takes what is under way where the input has ended, if that is anything.
 fn take_last<T: LineTaker>(line: &Line, taker: &mut T) -> io::Result<()>
-    ensures { OnOk result ((lines : List (List ℕ)) (bytes : List ℕ) → T.took taker.old lines
-        → Took line.now bytes → T.took taker.new (lines ++ last_line bytes)) }
+    ensures { OnOk result ((bytes : List ℕ) → Took line.now bytes → T.taken taker.old (last_line bytes) taker.new) }
 {
     if line.is_empty() {
         return Ok(());
@@ -69,8 +71,7 @@ fn take_last<T: LineTaker>(line: &Line, taker: &mut T) -> io::Result<()>
 // Takes more input: each line feed ends a line, and every other byte belongs to one.
 fn take_bytes<T: LineTaker>(input: &[u8], line: &mut Line, taker: &mut T) -> io::Result<()>
     ensures rest { OnOk result ((bytes : List ℕ) → Took line.old bytes → Took line.new (underway bytes input.now)) }
-    ensures taken { OnOk result ((lines : List (List ℕ)) (bytes : List ℕ) → T.took taker.old lines
-        → Took line.old bytes → T.took taker.new (lines ++ ended bytes input.now)) }
+    ensures taken { OnOk result ((bytes : List ℕ) → Took line.old bytes → T.taken taker.old (ended bytes input.now) taker.new) }
 {
     for byte in input {
         if *byte == b'\n' {

@@ -1,4 +1,8 @@
 // What the programs print of bytes, and of a line that is too long.
+ghost use Rattle.std.specs.Prelude.{Some};
+ghost use Rattle.input.specs.Hex.{pair_of, pairs_of};
+ghost use Rattle.input.specs.Limits.{too_long_text};
+
 use crate::line::LINE_LIMIT;
 use std::error::Error;
 use std::fmt;
@@ -11,13 +15,34 @@ pub struct Pairs<'a> {
 }
 
 impl fmt::Display for Pairs<'_> {
+    ghost output = { λ pairs. Some (pairs_of pairs.between.now pairs.bytes.now) };
+
     fn fmt<W: fmt::Write>(&self, f: &mut fmt::Formatter<W>) -> fmt::Result {
-        let mut between = "";
-        for &byte in self.bytes {
-            write!(f, "{between}{byte:02X}")?;
-            between = self.between;
+        let Some((first, others)) = self.bytes.split_first() else {
+            return Ok(());
+        };
+        let first = Pair(*first);
+        write!(f, "{first}")?;
+        let between = self.between;
+        for byte in others {
+            let pair = Pair(*byte);
+            write!(f, "{between}{pair}")?;
         }
         Ok(())
+    }
+}
+
+// A byte as a pair of hexadecimal digits in capitals.
+#[derive(Clone, Copy)]
+struct Pair(u8);
+
+impl fmt::Display for Pair {
+    ghost output = { λ pair. Some (pair_of pair.0) };
+
+    #[tactic(auto, using(std::proofs::lemmas::Fmt::hex_byte))]
+    fn fmt<W: fmt::Write>(&self, f: &mut fmt::Formatter<W>) -> fmt::Result {
+        let byte = self.0;
+        write!(f, "{byte:02X}")
     }
 }
 
@@ -26,6 +51,8 @@ impl fmt::Display for Pairs<'_> {
 pub struct TooLong;
 
 impl fmt::Display for TooLong {
+    ghost output = { λ _. Some too_long_text };
+
     fn fmt<W: fmt::Write>(&self, f: &mut fmt::Formatter<W>) -> fmt::Result {
         write!(
             f,

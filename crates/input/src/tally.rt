@@ -1,6 +1,6 @@
 // How many lines were read, and how many of them refused.
-ghost use Rattle.std.specs.Prelude.{ℕ, Bool, List, [], Some};
-ghost use Rattle.input.specs.Counting.{Counts, Tallied, counts_said};
+ghost use Rattle.std.specs.Prelude.{◌≡◌, Some};
+ghost use Rattle.input.specs.Counting.{counted, none_counted, counts_said};
 
 use std::fmt;
 
@@ -14,7 +14,7 @@ pub struct Tally {
 impl Tally {
     // A tally that has counted no line yet.
     pub fn new() -> Tally
-        ensures { (good : List ℕ → Bool) → Tallied result good [] }
+        ensures { result ≡ none_counted }
     {
         Tally {
             read: 0,
@@ -24,7 +24,7 @@ impl Tally {
 
     // Counts a line, by whether it was read as an identifier.
     pub fn count(&mut self, is_read: bool)
-        ensures { Counts self.old is_read self.new }
+        ensures { self.new ≡ counted is_read self.old }
     {
         self.read = self.read.saturating_add(1);
         if !is_read {

@@ -1,5 +1,6 @@
 // Lines of some input checked, counted and answered.
-ghost use Rattle.std.specs.Prelude.{length, nat_le};
+ghost use Rattle.std.specs.Prelude.{◌++◌, length, cond, codes, decimal, nat_le};
+ghost use Rattle.input.specs.Limits.{too_long_text};
 
 use crate::{Checker, Line, TooLong, check_lines};
 use std::test::Fail;
@@ -10,6 +11,8 @@ struct Lengths;
 
 impl Checker for Lengths {
     ghost good = { λ bytes. nat_le (length bytes) 4096 };
+
+    ghost answer = { λ bytes. cond (nat_le (length bytes) 4096) (codes "ok " ++ decimal (length bytes)) (codes "no " ++ too_long_text) };
 
     type Found = usize;
 
@@ -28,8 +31,7 @@ fn lines_are_answered_and_counted(rt: HostRuntime) -> Result<(), Fail> {
     let mut text = vec![in rt.alloc(); b'7'; 4097]?;
     text.extend_from_slice(b"\n1.2\n\nlast")?;
     let mut input = text.as_slice();
-    let mut checked = check_lines(rt.alloc(), Lengths, &mut input, Vec::new(rt.alloc()))?;
-    checked.finish()?;
+    let checked = check_lines(rt.alloc(), Lengths, &mut input, Vec::new(rt.alloc()))?;
     assert_eq!(rt; checked.tally.read, 4);
     assert_eq!(rt; checked.tally.refused, 1);
     let answers =

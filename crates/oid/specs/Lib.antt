@@ -3,6 +3,7 @@ pub mod Tree
 pub mod Meaning
 pub mod Equality
 pub mod Refusals
+pub mod Words
 pub mod Numbers
 pub mod Collected
 pub mod Pages

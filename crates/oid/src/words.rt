@@ -1,4 +1,7 @@
 // Refusals in words.
+ghost use Rattle.std.specs.Prelude.{Some};
+ghost use Rattle.oid.specs.Words.{words_of, fault_text};
+
 use crate::arc::ARC_LIMIT;
 use crate::identifier::{FEWEST_ARCS, LAST_SECOND, MOST_ARCS};
 use crate::refusal::{Fault, Refusal};
@@ -7,6 +10,9 @@ use std::fmt;
 
 // What is wrong; where it speaks of a place, that is a fault's offset.
 impl fmt::Display for Refusal {
+    ghost output = { λ refusal. Some (words_of refusal) };
+
+    #[tactic(auto, unfolding(crate::specs::Arcs::arc_limit))]
     fn fmt<W: fmt::Write>(&self, f: &mut fmt::Formatter<W>) -> fmt::Result {
         match self {
             Refusal::NotDotted => write!(
@@ -44,6 +50,8 @@ impl Error for Refusal {}
 
 // The number, the offset and the words.
 impl fmt::Display for Fault {
+    ghost output = { λ fault. Some (fault_text fault) };
+
     fn fmt<W: fmt::Write>(&self, f: &mut fmt::Formatter<W>) -> fmt::Result {
         let number = self.refusal.number();
         let offset = self.offset;

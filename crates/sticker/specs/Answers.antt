@@ -1,13 +1,19 @@
--- What the program makes of a line.
-use Rattle.std.specs.Prelude.{ℕ, ◌+◌, ◌-◌, Bool, true, false, cond, List, length, drop, Some, None, Ok, Err, codes, Option, Result, nat_le}
+-- What the program makes of a line, and of all lines of its input.
+use Rattle.std.specs.Prelude.{ℕ, ◌+◌, ◌-◌, Bool, true, false, cond, List, [], ◌++◌, length, drop, Some, None, Ok, Err, codes, decimal, Option, Result, nat_le}
 use Rattle.oid.specs.Meaning.{arcs_of}
 use Rattle.oid.specs.Tree.{begins_with}
+use Rattle.oid.specs.Words.{fault_text}
 use Rattle.oid.specs.declared.refusal.Fault.{Fault}
 use Rattle.dotted.specs.Reading.{read_dotted}
+use Rattle.dotted.specs.Writing.{dotted_text}
 use Rattle.der.specs.Header.{taken_in}
 use Rattle.der.specs.Reading.{read_der}
-use Rattle.input.specs.Hex.{unpaired, pairs_in}
-use Rattle.input.specs.Limits.{line_limit}
+use Rattle.der.specs.Writing.{der_bytes}
+use Rattle.codecs.specs.Printed.{described}
+use Rattle.input.specs.Answers.{report}
+use Rattle.input.specs.Hex.{unpaired, pairs_in, pairs_of}
+use Rattle.input.specs.Limits.{line_limit, too_long_text}
+use Rattle.input.specs.Lines.{lines_in}
 use Rattle.sticker.specs.declared.trouble.Trouble.{Trouble}
 use Rattle.sticker.specs.declared.trouble.Trouble.TheVariants.{Faulty, NotHex, Long}
 use Rattle.sticker.specs.declared.found.Found.{Found}
@@ -74,3 +80,19 @@ is_good too_long = false
 -- whether a line is read as an identifier
 abbrev pub good_line : List ℕ → Bool
 good_line line = is_good (on_line line)
+
+-- what is printed of an answer, behind `ok` or `no`
+abbrev pub printed : Answer → List ℕ
+printed (sticker arcs) = described arcs ++ (codes " der " ++ pairs_of [] (der_bytes arcs))
+printed (chip arcs taken left) = dotted_text arcs ++ (codes " taken " ++ (decimal taken ++ (codes " left " ++ decimal left)))
+printed (faulty fault) = fault_text fault
+printed (not_hex offset) = codes "hex " ++ (decimal offset ++ codes " the byte here is no hexadecimal digit of a pair")
+printed too_long = too_long_text
+
+-- the answer to a line, as it is written
+abbrev pub answer_to : List ℕ → List ℕ
+answer_to line = cond (good_line line) (codes "ok ") (codes "no ") ++ printed (on_line line)
+
+-- all that is written of some input: an answer to each line, and the counts
+abbrev pub output_of : List ℕ → List ℕ
+output_of input = report good_line answer_to (lines_in input)

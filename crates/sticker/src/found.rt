@@ -1,4 +1,7 @@
 // What a line holds.
+ghost use Rattle.std.specs.Prelude.{Some, Ok};
+ghost use Rattle.sticker.specs.Answers.{said, printed};
+
 use codecs::{Der, Described, Identifier, Notation, Text};
 use input::Pairs;
 use std::fmt;
@@ -16,6 +19,8 @@ pub enum Found {
 }
 
 impl fmt::Display for Found {
+    ghost output = { λ found. Some (printed (said (Ok found))) };
+
     fn fmt<W: fmt::Write>(&self, f: &mut fmt::Formatter<W>) -> fmt::Result {
         match self {
             Found::Sticker(identifier) => {

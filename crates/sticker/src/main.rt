@@ -7,14 +7,12 @@ mod judging;
 mod stickers_and_chips;
 mod trouble;
 
-use input::check_lines;
 use std::io::BufWriter;
-use stickers_and_chips::StickersAndChips;
+use stickers_and_chips::answer_lines;
 
 fn main(rt: HostRuntime) -> anyhow::Result<()> {
     let mut input = rt.stdin();
     let out = BufWriter::new(rt.alloc(), rt.stdout())?;
-    let mut checked = check_lines(rt.alloc(), StickersAndChips, &mut input, out)?;
-    checked.finish()?;
+    answer_lines(rt.alloc(), &mut input, out)?;
     Ok(())
 }

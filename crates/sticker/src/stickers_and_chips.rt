@@ -1,12 +1,16 @@
 // Stickers and chips as lines to be checked.
-ghost use Rattle.std.specs.Prelude.{◌≡◌, ℕ, List, is_ok};
+ghost use Rattle.std.specs.Prelude.{◌≡◌, ℕ, List, Some, is_ok, IfOk};
+ghost use Rattle.std.specs.Io.KnownBytes.{Appends};
+ghost use Rattle.input.specs.Answers.{answered};
 ghost use Rattle.input.specs.Lines.{Took};
-ghost use Rattle.sticker.specs.Answers.{said, on_line, good_line};
+ghost use Rattle.sticker.specs.Answers.{said, on_line, good_line, printed, answer_to, output_of};
 
 use crate::found::Found;
 use crate::judging::judge;
 use crate::trouble::Trouble;
-use input::{Checker, Line};
+use input::{Checked, Checker, Line, check_lines};
+use std::alloc::Global;
+use std::io::{Read, Write};
 
 // Takes each line for a sticker's text or a chip's content.
 #[derive(Clone, Copy)]
@@ -15,15 +19,26 @@ pub struct StickersAndChips;
 impl Checker for StickersAndChips {
     ghost good = { good_line };
 
+    ghost answer = { answer_to };
+
     type Found = Found;
 
     type Trouble = Trouble;
 
     #[tactic(auto, using(crate::proofs::Judged::found_good))]
-    fn check(&self, line: &Line) -> Result<Found, Trouble>
-        ensures is_read { (bytes : List ℕ) → Took line.now bytes → is_ok result ≡ good_line bytes }
-        ensures says { (bytes : List ℕ) → Took line.now bytes → said result ≡ on_line bytes }
-    {
+    fn check(&self, line: &Line) -> Result<Found, Trouble> {
         judge(line)
     }
+}
+
+// All lines of the input, answered and counted.
+pub fn answer_lines<R: Read, W: Write + Drop>(
+    heap: Global,
+    input: &mut R,
+    out: W,
+) -> anyhow::Result<Checked<StickersAndChips, W>>
+    ensures { IfOk result (λ checked. (bytes : List ℕ) → R.remaining input.old ≡ Some bytes
+        → Appends (W.contents out) (W.contents checked.out) (output_of bytes)) }
+{
+    check_lines(heap, StickersAndChips, input, out)
 }

@@ -1,5 +1,6 @@
 // Why a line holds no identifier.
-ghost use Rattle.std.specs.Prelude.{◌≡◌};
+ghost use Rattle.std.specs.Prelude.{◌≡◌, Some, Err};
+ghost use Rattle.sticker.specs.Answers.{said, printed};
 ghost use Rattle.sticker.specs.declared.trouble.Trouble.TheVariants.{Faulty};
 
 use codecs::Fault;
@@ -26,6 +27,8 @@ impl From<Fault> for Trouble {
 }
 
 impl fmt::Display for Trouble {
+    ghost output = { λ trouble. Some (printed (said (Err trouble))) };
+
     fn fmt<W: fmt::Write>(&self, f: &mut fmt::Formatter<W>) -> fmt::Result {
         match self {
             Trouble::Faulty(fault) => write!(f, "{fault}"),

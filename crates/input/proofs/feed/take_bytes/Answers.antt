@@ -1,5 +1,5 @@
-use Rattle.std.proofs.Common.{[], ◌∷◌, ◌++◌, ◌+◌, take, sym, ap, ◌∙◌, subst, append_assoc, arith}
-use Rattle.std.proofs.lemmas.List.{append-nil, take_all}
+use Rattle.std.proofs.Common.{[], ◌∷◌, ◌+◌, take, sym, ap, ◌∙◌, subst, arith}
+use Rattle.std.proofs.lemmas.List.{take_all}
 use Rattle.input.specs.Lines.{underway, ended}
 use Rattle.input.proofs.Feeding.{underway_feed, ended_feed, underway_byte, ended_byte}
 use Rattle.input.proofs.feed.take_bytes.Goals as goal
@@ -7,10 +7,7 @@ use Rattle.input.proofs.feed.take_bytes.Goals.{then-byte-eq10+in_ok-take_line, e
 
 pub loop-byte-init : goal.loop-byte-init
 unfolding underway ended
-loop-byte-init g c = record {
-  rest = λ bytes under. under;
-  taken = λ lines bytes took under. subst (g.T.LineTaker.took c.args.taker.now) (sym (append-nil lines)) took;
-}
+loop-byte-init g c = record { rest = λ bytes under. under; lines = λ bytes under. g.met.T.LineTaker.none c.args.taker.now }
 
 pub loop-byte-preserved : goal.loop-byte-preserved
 loop-byte-preserved g c =
@@ -22,24 +19,29 @@ loop-byte-preserved g c =
           let feed = w.if-byte-eq10.true in
           record {
             rest = λ bytes under. w.line-is ∙ w.clear.ensures ∙ sym (ap (take 4097) (underway_feed bytes input i (omega arith) feed));
-            taken = λ lines bytes took under.
+            lines = λ bytes under.
                 let line = underway bytes (take i input) in
-                let done = lines ++ ended bytes (take i input) in
-                subst (λ taker. g.T.LineTaker.took taker (lines ++ ended bytes (take (i + 1) input))) (sym w.taker-is)
-                (subst (g.T.LineTaker.took w.take_line.new.self) (append_assoc lines (ended bytes (take i input)) (line ∷ []) ∙ ap (λ l. lines ++ l) (sym (ended_feed bytes input i (omega arith) feed)))
-                (w.in_ok-take_line.ensures done line (so_far.taken lines bytes took under) (so_far.rest bytes under)));
+                subst (g.T.LineTaker.taken c.args.taker.now (ended bytes (take (i + 1) input))) (sym w.taker-is)
+                (subst (λ l. g.T.LineTaker.taken c.args.taker.now l w.take_line.new.self) (sym (ended_feed bytes input i (omega arith) feed))
+                (g.met.T.LineTaker.further c.args.taker.now c.loop-byte.taker w.take_line.new.self (ended bytes (take i input)) (line ∷ [])
+                (so_far.lines bytes under) (w.in_ok-take_line.ensures line (so_far.rest bytes under))));
           }
       | else-byte-eq10 w ↦
           let other = w.if-byte-eq10.false in
           record {
             rest = λ bytes under.
                 w.line-is ∙ w.take.ensures (underway bytes (take i input)) (so_far.rest bytes under) ∙ sym (ap (take 4097) (underway_byte bytes input i (omega arith) other));
-            taken = λ lines bytes took under.
-                subst (λ taker. g.T.LineTaker.took taker (lines ++ ended bytes (take (i + 1) input))) (sym w.taker-is)
-                (subst (g.T.LineTaker.took c.loop-byte.taker) (ap (λ l. lines ++ l) (sym (ended_byte bytes input i (omega arith) other))) (so_far.taken lines bytes took under));
+            lines = λ bytes under.
+                subst (g.T.LineTaker.taken c.args.taker.now (ended bytes (take (i + 1) input))) (sym w.taker-is)
+                (subst (λ l. g.T.LineTaker.taken c.args.taker.now l c.loop-byte.taker) (sym (ended_byte bytes input i (omega arith) other)) (so_far.lines bytes under));
           }
     ]
 
 pub returns-clause-rest : goal.returns-clause-rest
 returns-clause-rest g c bytes under =
     c.loop-byte.invariant.rest bytes under ∙ ap (λ l. take 4097 (underway bytes l)) (take_all c.loop-byte.byte-index c.args.input.now (omega arith))
+
+pub returns-clause-taken : goal.returns-clause-taken
+returns-clause-taken g c bytes under =
+    subst (λ l. g.T.LineTaker.taken c.args.taker.now (ended bytes l) c.loop-byte.taker)
+    (take_all c.loop-byte.byte-index c.args.input.now (omega arith)) (c.loop-byte.invariant.lines bytes under)

@@ -1,4 +1,4 @@
-use Rattle.std.proofs.Common.{ℕ, List, ◌++◌, take}
+use Rattle.std.proofs.Common.{ℕ, List, take}
 use Rattle.input.specs.Lines.{Took, underway, ended}
 use Rattle.input.proofs.feed.take_bytes.Given as goal
 
@@ -6,5 +6,5 @@ use Rattle.input.proofs.feed.take_bytes.Given as goal
 abbrev pub invariant-loop-byte : goal.invariant-loop-byte
 invariant-loop-byte g l = record {
   rest : (bytes : List ℕ) → Took l.initial.line bytes → Took l.line (underway bytes (take l.byte-index l.input));
-  taken : (lines : List (List ℕ)) (bytes : List ℕ) → g.T.LineTaker.took l.initial.taker lines → Took l.initial.line bytes → g.T.LineTaker.took l.taker (lines ++ ended bytes (take l.byte-index l.input));
+  lines : (bytes : List ℕ) → Took l.initial.line bytes → g.T.LineTaker.taken l.initial.taker (ended bytes (take l.byte-index l.input)) l.taker;
 }
