@@ -4,17 +4,15 @@ use Rattle.std.specs.Str.{all_ascii_digits}
 use Rattle.std.proofs.lemmas.Fmt.{decimal_nonempty}
 use Rattle.std.proofs.lemmas.List.{drop_at, length-append}
 use Rattle.std.proofs.lemmas.Bool.{and_parts, and_left, cond-true, cond-false, ne_eqb, leb-true}
-use Rattle.oid.specs.Arcs.{arc_limit, is_arc}
-use Rattle.oid.specs.Numbers.{first_at, read_numbers}
+use Rattle.oid.specs.Arcs.{is_arc}
 use Rattle.oid.specs.Refusals.{fault_at, answered, filled}
 use Rattle.oid.specs.declared.refusal.Fault.{Fault}
 use Rattle.oid.specs.declared.refusal.Refusal.TheVariants.{NotDotted}
 use Rattle.oid.proofs.Numbers.{never_malformed}
 use Rattle.oid.specs.Tree.{all_arcs, is_identifier, begins_with}
 use Rattle.oid.proofs.Tree.{begins_front, front_begins, keeps}
-use Rattle.dotted.specs.Form.{is_digit, faulty_from, faulty}
-use Rattle.dotted.specs.Laws.{Writes, Exactly, OneText, read_further, PrefixMovesFaults, Prefixed, FirstMisfit, MalformedAtFirst, Examples}
-use Rattle.dotted.specs.Pieces.{pieces_from}
+use Rattle.dotted.specs.Form.{is_digit, faulty}
+use Rattle.dotted.specs.Laws.{Writes, Exactly, OneText, read_further, PrefixMovesFaults, Prefixed, FirstMisfit, MalformedAtFirst}
 use Rattle.dotted.specs.Prefix.{prefix, prefix_length}
 use Rattle.dotted.specs.Reading.{read_from, read_dotted}
 use Rattle.dotted.specs.Writing.{dotted_text}
@@ -113,10 +111,6 @@ one_text one other arcs p q r s =
     let first = (text_read one 0 arcs (sym (plain one p) ∙ r)).1 in
     let second = (text_read other 0 arcs (sym (plain other q) ∙ s)).1 in
     first ∙ sym second
-
-pub examples : Examples
-unfolding read_dotted prefix_length prefix begins_with faulty_from pieces_from read_numbers first_at arc_limit
-examples = (refl, refl, refl)
 
 -- an identifier's text has no prefix: it begins with a digit
 no_prefix : (digits rest : List ℕ) → all_ascii_digits digits ≡ true → 0 < length digits → begins_with (digits ++ rest) prefix ≡ false

@@ -1,12 +1,12 @@
 -- Laws of dotted text, over the reading and the text that the contracts cite.
-use Rattle.std.specs.Prelude.{◌≡◌, ℕ, ◌+◌, ◌-◌, ◌<◌, ◌≤◌, Bool, true, false, cond, ◌&&◌, ◌||◌, List, ◌++◌, length, drop, Ok, Err, codes, Result, ◌==◌, nat_lt, slice_index}
+use Rattle.std.specs.Prelude.{◌≡◌, ℕ, ◌+◌, ◌-◌, ◌<◌, ◌≤◌, Bool, true, false, cond, ◌&&◌, ◌||◌, List, ◌++◌, length, drop, Ok, Err, Result, ◌==◌, nat_lt, slice_index}
 use Rattle.std.specs.List.{between}
 use Rattle.std.specs.Result.{result_map_both}
 use Rattle.oid.specs.Refusals.{number_of, fault_at, answered}
 use Rattle.oid.specs.Tree.{is_identifier}
 use Rattle.oid.specs.declared.refusal.Fault.{Fault}
 use Rattle.oid.specs.declared.refusal.Refusal.{Refusal}
-use Rattle.oid.specs.declared.refusal.Refusal.TheVariants.{NotDotted, LeadingZero, ArcCount, FirstArcs}
+use Rattle.oid.specs.declared.refusal.Refusal.TheVariants.{NotDotted, ArcCount}
 use Rattle.dotted.specs.Form.{is_dot, is_digit}
 use Rattle.dotted.specs.Prefix.{prefix, prefix_length}
 use Rattle.dotted.specs.Reading.{read_dotted}
@@ -78,11 +78,3 @@ FirstMisfit text start at =
 abbrev pub MalformedAtFirst : List ℕ → Result (Unit {0}) Fault → Type 0
 MalformedAtFirst text answer =
     (at : ℕ) → answer ≡ Err (fault_at NotDotted at) → FirstMisfit text (prefix_length text) at
-
--- Examples: `1.40` breaks the rule at its second number, `1..2` is malformed at its first dot, and the second
--- number of `1.02` has a leading zero.
-abbrev pub Examples : Type 0
-Examples =
-    (read_dotted (codes "1.40") ≡ Err (fault_at FirstArcs 2))
-    × (read_dotted (codes "1..2") ≡ Err (fault_at NotDotted 1))
-    × (read_dotted (codes "1.02") ≡ Err (fault_at LeadingZero 2))

@@ -1,5 +1,5 @@
 // Laws of dotted text, each as the contract of a function.
-ghost use Rattle.dotted.specs.Laws.{OneText, PrefixMovesFaults, Examples};
+ghost use Rattle.dotted.specs.Laws.{OneText, PrefixMovesFaults};
 
 // Two texts without a prefix that read to one identifier are equal.
 pub fn one_text_for_each()
@@ -10,9 +10,4 @@ pub fn one_text_for_each()
 // further on.
 pub fn prefix_moves_faults()
     ensures { PrefixMovesFaults }
-{}
-
-// What the rules say of three texts.
-pub fn worked_examples()
-    ensures { Examples }
 {}
