@@ -1,7 +1,7 @@
 // The examples and all lines compared, and what came of it written.
-ghost use Rattle.std.specs.Prelude.{◌≡◌, ℕ, List, ◌++◌, None, Some, codes, OnOk};
+ghost use Rattle.std.specs.Prelude.{◌≡◌, ℕ, List, ◌++◌, None, codes, OnOk};
 ghost use Rattle.std.specs.Io.KnownBytes.{Appends};
-ghost use Rattle.input.specs.Lines.{lines_in};
+ghost use Rattle.input.specs.Lines.{LinesOf};
 ghost use Rattle.conformance.specs.Comparing.{first_difference};
 ghost use Rattle.conformance.specs.Differences.{from_equal};
 ghost use Rattle.conformance.specs.Output.{comparison_text, example_line, output_of};
@@ -34,9 +34,9 @@ pub fn compare_all<R: Read, W: Write>(
     input: &mut R,
     out: &mut W,
 ) -> anyhow::Result<()>
-    ensures { OnOk result ((bytes : List ℕ) → R.remaining input.old ≡ Some bytes
-        → (first_difference (lines_in bytes) ≡ None)
-        × Appends (W.contents out.old) (W.contents out.new) (output_of (lines_in bytes))) }
+    ensures { OnOk result ((lines : List (List ℕ)) × LinesOf (R.remaining input.old) lines
+        × (first_difference lines ≡ None)
+        × Appends (W.contents out.old) (W.contents out.new) (output_of lines)) }
 {
     compare_example(&STANDARDS, out)?;
     compare_example(&NEWER, out)?;

@@ -1,8 +1,8 @@
 // Lines taken into a comparison.
-ghost use Rattle.std.specs.Prelude.{◌≡◌, ℕ, List, ◌++◌, Some, IfOk};
+ghost use Rattle.std.specs.Prelude.{◌≡◌, ℕ, List, ◌++◌, IfOk};
 ghost use Rattle.std.proofs.Common.{sym, subst, append_assoc};
 ghost use Rattle.std.proofs.lemmas.List.{append-nil};
-ghost use Rattle.input.specs.Lines.{lines_in};
+ghost use Rattle.input.specs.Lines.{LinesOf};
 ghost use Rattle.conformance.specs.Comparing.{Compared, GoesOn};
 
 use crate::comparison::Comparison;
@@ -38,8 +38,7 @@ impl LineTaker for Comparison {
 
 // All lines of the input compared, up to the first that differs.
 pub fn compare_lines<R: Read>(heap: Global, input: &mut R) -> anyhow::Result<Comparison>
-    ensures { IfOk result (λ comparison. (bytes : List ℕ) → R.remaining input.old ≡ Some bytes
-        → Compared comparison (lines_in bytes)) }
+    ensures { IfOk result (λ comparison. (lines : List (List ℕ)) × LinesOf (R.remaining input.old) lines × Compared comparison lines) }
 {
     let mut comparison = Comparison::new();
     read_lines(heap, input, &mut comparison)?;

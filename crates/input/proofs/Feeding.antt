@@ -1,11 +1,11 @@
 -- Input in pieces: the lines that they end together, and how far it is read.
-use Rattle.std.proofs.Common.{◌≡◌, ℕ, ◌+◌, ◌<◌, Bool, true, false, cond, eqb, List, [], ◌∷◌, ◌++◌, length, get_or, take, Some, None, Option, sym, refl, ap, ◌∙◌, subst}
+use Rattle.std.proofs.Common.{◌≡◌, ℕ, ◌+◌, ◌<◌, Bool, true, false, cond, eqb, List, [], ◌∷◌, ◌++◌, length, get_or, take, Some, None, IfSome, Option, sym, refl, ap, ◌∙◌, subst}
 use Rattle.std.specs.Io.KnownBytes.{Consumes, IsAtEnd}
 use Rattle.std.proofs.KnownBytes.{Consumes-nil, Consumes-trans}
 use Rattle.std.proofs.lemmas.List.{append-nil, take_more}
 use Rattle.std.proofs.lemmas.Bool.{cond-true, cond-false, eq-eqb, ne_eqb}
 use Rattle.input.specs.Limits.{line_feed}
-use Rattle.input.specs.Lines.{Took, underway, ended, last_line, lines_in}
+use Rattle.input.specs.Lines.{Took, LinesOf, underway, ended, last_line, lines_in}
 
 underway-append : (line first second : List ℕ) → underway line (first ++ second) ≡ underway (underway line first) second
 unfolding underway
@@ -56,14 +56,13 @@ module _ (line input : List ℕ) (i : ℕ) (inside : i < length input) where
     pub ended_byte : ended line (take (i + 1) input) ≡ ended line (take i input)
     ended_byte = ended_more ∙ ap (λ l. ended line (take i input) ++ l) (cond-false _ _ _ (ne_eqb (get_or input i 0) line_feed other)) ∙ append-nil (ended line (take i input))
 
--- a reader that had these bytes left, and now none, gave just these
-all_read : (before now : Option (List ℕ)) (read bytes : List ℕ) → Consumes before now read → IsAtEnd now → before ≡ Some bytes
-    → (read ≡ bytes) × (now ≡ Some [])
-all_read None now read bytes given end known = cc
-all_read (Some left) None read bytes given end known = absurd given
-all_read (Some left) (Some rest) read bytes given end known =
-    let same : left ≡ bytes = cc in
-    (sym (append-nil read) ∙ ap (λ l. read ++ l) (sym end) ∙ sym given ∙ same, ap Some end)
+-- a reader that gave these bytes, and has none left, had just these
+all_read : (before now : Option (List ℕ)) (read : List ℕ) → Consumes before now read → IsAtEnd now
+    → LinesOf before (lines_in read) × IfSome before (λ bytes. now ≡ Some [])
+all_read None now read given end = (tt, tt)
+all_read (Some left) None read given end = absurd given
+all_read (Some left) (Some rest) read given end =
+    (ap lines_in (sym (append-nil read) ∙ ap (λ l. read ++ l) (sym end) ∙ sym given), ap Some end)
 
 module _ {Taker : Type 0} (taken : Taker → List (List ℕ) → Taker → Type 0) (known : Option (List ℕ)) (before : Taker) where
   -- how far input is read: a reader gave these bytes, a taker took the lines that they end, and a line the rest
@@ -97,6 +96,6 @@ module _ {Taker : Type 0} (taken : Taker → List (List ℕ) → Taker → Type 
 
   -- where a reader gives nothing more, that is all that it had
   pub fed_all : (left left' : Option (List ℕ)) (taker : Taker) (line : List ℕ) (fed : Fed left taker line) → Consumes left left' [] → IsAtEnd left'
-      → (bytes : List ℕ) → known ≡ Some bytes → (fed.read ≡ bytes) × (left' ≡ Some [])
-  fed_all left left' taker line fed given end bytes e =
-      all_read known left' fed.read bytes (subst (Consumes known left') (append-nil fed.read) (Consumes-trans known left left' fed.read [] fed.given given)) end e
+      → LinesOf known (lines_in fed.read) × IfSome known (λ bytes. left' ≡ Some [])
+  fed_all left left' taker line fed given end =
+      all_read known left' fed.read (subst (Consumes known left') (append-nil fed.read) (Consumes-trans known left left' fed.read [] fed.given given)) end

@@ -1,5 +1,5 @@
 -- Lines: the bytes that one has taken, and how input is cut into them.
-use Rattle.std.specs.Prelude.{◌≡◌, ℕ, ◌+◌, cond, List, [], ◌∷◌, ◌++◌, take, ◌==◌}
+use Rattle.std.specs.Prelude.{◌≡◌, ℕ, ◌+◌, cond, List, [], ◌∷◌, ◌++◌, take, Option, IfSome, ◌==◌}
 use Rattle.input.specs.Limits.{line_limit, line_feed}
 use Rattle.input.specs.declared.line.Line.{Line}
 
@@ -25,3 +25,7 @@ last_line (byte ∷ rest) = (byte ∷ rest) ∷ []
 -- all lines of some input: those that a line feed ends, and the last line
 abbrev pub lines_in : List ℕ → List (List ℕ)
 lines_in input = ended [] input ++ last_line (underway [] input)
+
+-- these are the lines of a reader's remaining bytes, where those are known; of other readers they are any lines
+abbrev pub LinesOf : Option (List ℕ) → List (List ℕ) → Type 0
+LinesOf remaining lines = IfSome remaining (λ bytes. lines ≡ lines_in bytes)

@@ -7,7 +7,7 @@ ghost use Rattle.std.proofs.lemmas.Grind.{flat_map-append};
 ghost use Rattle.std.proofs.lemmas.List.Sums.{fold-append};
 ghost use Rattle.input.specs.Answers.{answered, answers, report};
 ghost use Rattle.input.specs.Counting.{counted, all_counted, tally_of, counts_said};
-ghost use Rattle.input.specs.Lines.{Took, lines_in};
+ghost use Rattle.input.specs.Lines.{Took, LinesOf};
 
 use crate::feed::{LineTaker, read_lines};
 use crate::line::Line;
@@ -85,10 +85,9 @@ pub fn check_lines<C: Checker + Drop, R: Read, W: Write + Drop>(
     input: &mut R,
     out: W,
 ) -> anyhow::Result<Checked<C, W>>
-    ensures tallied { IfOk result (λ checked. (bytes : List ℕ) → R.remaining input.old ≡ Some bytes
-        → checked.tally ≡ tally_of C.good (lines_in bytes)) }
-    ensures written { IfOk result (λ checked. (bytes : List ℕ) → R.remaining input.old ≡ Some bytes
-        → Appends (W.contents out) (W.contents checked.out) (report C.good C.answer (lines_in bytes))) }
+    ensures { IfOk result (λ checked. (lines : List (List ℕ)) × LinesOf (R.remaining input.old) lines
+        × (checked.tally ≡ tally_of C.good lines)
+        × Appends (W.contents out) (W.contents checked.out) (report C.good C.answer lines)) }
 {
     let mut checked = Checked {
         tally: Tally::new(),

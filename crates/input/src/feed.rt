@@ -1,6 +1,6 @@
 // Input cut into lines.
-ghost use Rattle.std.specs.Prelude.{◌≡◌, ℕ, List, [], ◌∷◌, ◌++◌, OnOk};
-ghost use Rattle.input.specs.Lines.{Took, underway, ended, last_line, lines_in};
+ghost use Rattle.std.specs.Prelude.{◌≡◌, ℕ, List, [], ◌∷◌, ◌++◌, Some, IfSome, OnOk};
+ghost use Rattle.input.specs.Lines.{Took, LinesOf, underway, ended, last_line};
 
 use crate::line::Line;
 use anyhow::bail;
@@ -32,17 +32,14 @@ pub trait LineTaker {
 }
 
 // Hands all lines of the input to a taker. A last line without a line feed is a line; nothing after the last line feed
-// is none. The first clause is of any reader, the others where its bytes are known.
+// is none.
 pub fn read_lines<R: Read, T: LineTaker>(
     heap: Global,
     input: &mut R,
     taker: &mut T,
 ) -> anyhow::Result<()>
-    ensures more { OnOk result ((lines : List (List ℕ)) × T.taken taker.old lines taker.new) }
-    ensures all { OnOk result ((bytes : List ℕ) → R.remaining input.old ≡ Some bytes
-        → T.taken taker.old (lines_in bytes) taker.new) }
-    ensures end { OnOk result ((bytes : List ℕ) → R.remaining input.old ≡ Some bytes
-        → R.remaining input.new ≡ Some []) }
+    ensures taken { OnOk result ((lines : List (List ℕ)) × LinesOf (R.remaining input.old) lines × T.taken taker.old lines taker.new) }
+    ensures end { OnOk result (IfSome (R.remaining input.old) (λ bytes. R.remaining input.new ≡ Some [])) }
 {
     let mut line = Line::new(heap)?;
     let mut chunk = [0; CHUNK];

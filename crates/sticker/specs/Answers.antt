@@ -13,7 +13,6 @@ use Rattle.codecs.specs.Printed.{described}
 use Rattle.input.specs.Answers.{report}
 use Rattle.input.specs.Hex.{unpaired, pairs_in, pairs_of}
 use Rattle.input.specs.Limits.{line_limit, too_long_text}
-use Rattle.input.specs.Lines.{lines_in}
 use Rattle.sticker.specs.declared.trouble.Trouble.{Trouble}
 use Rattle.sticker.specs.declared.trouble.Trouble.TheVariants.{Faulty, NotHex, Long}
 use Rattle.sticker.specs.declared.found.Found.{Found}
@@ -93,6 +92,6 @@ printed too_long = too_long_text
 abbrev pub answer_to : List ℕ → List ℕ
 answer_to line = cond (good_line line) (codes "ok ") (codes "no ") ++ printed (on_line line)
 
--- all that is written of some input: an answer to each line, and the counts
-abbrev pub output_of : List ℕ → List ℕ
-output_of input = report good_line answer_to (lines_in input)
+-- all that is written of some lines: an answer to each, and the counts
+abbrev pub output_of : List (List ℕ) → List ℕ
+output_of lines = report good_line answer_to lines

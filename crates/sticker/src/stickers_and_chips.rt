@@ -2,7 +2,7 @@
 ghost use Rattle.std.specs.Prelude.{◌≡◌, ℕ, List, Some, is_ok, IfOk};
 ghost use Rattle.std.specs.Io.KnownBytes.{Appends};
 ghost use Rattle.input.specs.Answers.{answered};
-ghost use Rattle.input.specs.Lines.{Took};
+ghost use Rattle.input.specs.Lines.{Took, LinesOf};
 ghost use Rattle.sticker.specs.Answers.{said, on_line, good_line, printed, answer_to, output_of};
 
 use crate::found::Found;
@@ -37,8 +37,8 @@ pub fn answer_lines<R: Read, W: Write + Drop>(
     input: &mut R,
     out: W,
 ) -> anyhow::Result<Checked<StickersAndChips, W>>
-    ensures { IfOk result (λ checked. (bytes : List ℕ) → R.remaining input.old ≡ Some bytes
-        → Appends (W.contents out) (W.contents checked.out) (output_of bytes)) }
+    ensures { IfOk result (λ checked. (lines : List (List ℕ)) × LinesOf (R.remaining input.old) lines
+        × Appends (W.contents out) (W.contents checked.out) (output_of lines)) }
 {
     check_lines(heap, StickersAndChips, input, out)
 }

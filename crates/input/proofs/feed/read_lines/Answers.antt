@@ -1,7 +1,7 @@
-use Rattle.std.proofs.Common.{◌≡◌, ◌<◌, ℕ, List, [], length, take, refl, subst, arith, Some}
+use Rattle.std.proofs.Common.{◌≡◌, ◌<◌, [], IfSome, length, take, refl, subst, arith, Some}
 use Rattle.std.specs.Io.KnownBytes.{Consumes}
 use Rattle.std.proofs.lemmas.List.{append-nil}
-use Rattle.input.specs.Lines.{ended, lines_in}
+use Rattle.input.specs.Lines.{LinesOf, ended, lines_in}
 use Rattle.input.proofs.Feeding.{fed_none, fed_more, fed_last, fed_all}
 use Rattle.input.proofs.feed.read_lines.Given.{Over}
 use Rattle.input.proofs.feed.read_lines.Goals as goal
@@ -26,23 +26,16 @@ loop-preserved g c =
 read : (g : Over) (c : goal.After-drop-line-inside-then-count-eq0 g) → g.T.LineTaker.taken c.args.taker.now (lines_in c.loop.invariant.0.read) c.take_last.new.taker
 read g c = fed_last g.T.LineTaker.taken _ _ g.met.T.LineTaker.further _ c.loop.taker c.loop.line c.loop.invariant.0 c.take_last.new.taker c.in_ok-take_last.ensures
 
-pub returns-then-count-eq0-clause-more : goal.returns-then-count-eq0-clause-more
-returns-then-count-eq0-clause-more g c = (lines_in c.loop.invariant.0.read, read g c)
-
--- of a reader whose bytes are known, these are all of them
-all : (g : Over) (c : goal.After-drop-line-inside-then-count-eq0 g) (bytes : List ℕ) → g.R.Read.remaining c.args.input.now ≡ Some bytes
-    → (c.loop.invariant.0.read ≡ bytes) × (g.R.Read.remaining c.read.new.self ≡ Some [])
-all g c bytes known =
+-- they are those of the reader
+all : (g : Over) (c : goal.After-drop-line-inside-then-count-eq0 g) → LinesOf (g.R.Read.remaining c.args.input.now) (lines_in c.loop.invariant.0.read)
+    × IfSome (g.R.Read.remaining c.args.input.now) (λ bytes. g.R.Read.remaining c.read.new.self ≡ Some [])
+all g c =
     let left = g.R.Read.remaining c.loop.input in
     let left' = g.R.Read.remaining c.read.new.self in
     let given = subst (λ n. Consumes left left' (take n c.read.new.buf)) c.if-count-eq0.true c.in_ok-count.ensures.bytes.0 in
     let room : 0 < length c.read.new.buf = omega arith in
     let end = c.in_ok-count.ensures.bytes.1 c.if-count-eq0.true room in
-    fed_all g.T.LineTaker.taken _ _ left left' c.loop.taker c.loop.line c.loop.invariant.0 given end bytes known
+    fed_all g.T.LineTaker.taken _ _ left left' c.loop.taker c.loop.line c.loop.invariant.0 given end
 
-pub returns-then-count-eq0-clause-all : goal.returns-then-count-eq0-clause-all
-returns-then-count-eq0-clause-all g c bytes known =
-    subst (λ l. g.T.LineTaker.taken c.args.taker.now (lines_in l) c.take_last.new.taker) (all g c bytes known).0 (read g c)
-
-pub returns-then-count-eq0-clause-end : goal.returns-then-count-eq0-clause-end
-returns-then-count-eq0-clause-end g c bytes known = (all g c bytes known).1
+pub returns-then-count-eq0 : goal.returns-then-count-eq0
+returns-then-count-eq0 g c = record { taken = (lines_in c.loop.invariant.0.read, (all g c).0, read g c); end = (all g c).1 }
