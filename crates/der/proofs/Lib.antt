@@ -1,5 +1,6 @@
 pub mod Accepted
 pub mod Accepting
+pub mod Bytes
 pub mod Contents
 pub mod Digits
 pub mod Joining

@@ -87,10 +87,14 @@ reads_whole arcs h =
     let alone : Encodes (der_bytes arcs) arcs [] = (h, sym (append-nil (der_bytes arcs))) in
     (encoded_read (der_bytes arcs) arcs [] alone, encoded_taken (der_bytes arcs) arcs [] alone)
 
+-- where nothing is left over, as many bytes are taken as there are
+pub whole_taken : (bytes arcs : List ℕ) → ReadsWhole bytes arcs → taken_in bytes ≡ length bytes
+whole_taken bytes arcs h = cc (ap (tells bytes) (sym h.0) ∙ h.1)
+
 -- what is read as arcs with nothing left over is their encoding
 pub whole_bytes : (bytes arcs : List ℕ) → Bytes bytes → ReadsWhole bytes arcs → bytes ≡ der_bytes arcs
 whole_bytes bytes arcs each h =
-    let told : taken_in bytes ≡ length bytes = cc (ap (tells bytes) (sym h.0) ∙ h.1) in
+    let told = whole_taken bytes arcs h in
     (bytes_read bytes arcs each h.0).1 ∙ ap (λ l. der_bytes arcs ++ l) (drop_all (taken_in bytes) bytes (omega arith))
     ∙ append-nil (der_bytes arcs)
 

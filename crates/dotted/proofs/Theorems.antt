@@ -1,9 +1,9 @@
 -- The laws of dotted text.
-use Rattle.std.proofs.Common.{◌≡◌, ℕ, ◌+◌, ◌<◌, ◌≤◌, Bool, true, false, cond, eqb, List, [], ◌∷◌, ◌++◌, length, drop, Some, None, Ok, Err, decimal, Option, Result, sym, refl, ap, ◌∙◌, subst, arith}
+use Rattle.std.proofs.Common.{◌≡◌, ℕ, ◌+◌, ◌<◌, ◌≤◌, Bool, true, false, cond, List, [], ◌∷◌, ◌++◌, length, drop, Some, None, Ok, Err, decimal, Option, Result, sym, refl, ap, ◌∙◌, subst, arith}
 use Rattle.std.specs.Str.{all_ascii_digits}
 use Rattle.std.proofs.lemmas.Fmt.{decimal_nonempty}
 use Rattle.std.proofs.lemmas.List.{drop_at, length-append}
-use Rattle.std.proofs.lemmas.Bool.{and_parts, and_left, cond-true, cond-false, ne_eqb, leb-true}
+use Rattle.std.proofs.lemmas.Bool.{and_parts, both_ways, cond-true}
 use Rattle.oid.specs.Arcs.{is_arc}
 use Rattle.oid.specs.Refusals.{fault_at, answered, filled}
 use Rattle.oid.specs.declared.refusal.Fault.{Fault}
@@ -11,7 +11,7 @@ use Rattle.oid.specs.declared.refusal.Refusal.TheVariants.{NotDotted}
 use Rattle.oid.proofs.Numbers.{never_malformed}
 use Rattle.oid.specs.Tree.{all_arcs, is_identifier, begins_with}
 use Rattle.oid.proofs.Tree.{begins_front, front_begins, keeps}
-use Rattle.dotted.specs.Form.{is_digit, faulty}
+use Rattle.dotted.specs.Form.{is_digit, begins_with_digit, faulty}
 use Rattle.dotted.specs.Laws.{Writes, Exactly, OneText, read_further, PrefixMovesFaults, Prefixed, FirstMisfit, MalformedAtFirst}
 use Rattle.dotted.specs.Prefix.{prefix, prefix_length}
 use Rattle.dotted.specs.Reading.{read_from, read_dotted}
@@ -112,24 +112,31 @@ one_text one other arcs p q r s =
     let second = (text_read other 0 arcs (sym (plain other q) ∙ s)).1 in
     first ∙ sym second
 
--- an identifier's text has no prefix: it begins with a digit
-no_prefix : (digits rest : List ℕ) → all_ascii_digits digits ≡ true → 0 < length digits → begins_with (digits ++ rest) prefix ≡ false
-unfolding begins_with prefix
-no_prefix [] rest all some = absurd (omega arith)
-no_prefix (byte ∷ digits) rest all some =
-    let digit = (and_parts (is_digit byte) (all_ascii_digits digits) all).0 in
-    and_left (eqb byte 117) _ (ne_eqb byte 117 (λ e. omega (arith, leb-true byte 57 (and_parts _ _ digit).1)))
+-- digits begin with a digit, whatever follows them
+digits_begin : (digits rest : List ℕ) → all_ascii_digits digits ≡ true → 0 < length digits → begins_with_digit (digits ++ rest) ≡ true
+digits_begin [] rest all some = absurd (omega arith)
+digits_begin (byte ∷ digits) rest all some = (and_parts (is_digit byte) (all_ascii_digits digits) all).0
 
-plain_text : (arcs : List ℕ) → is_identifier arcs ≡ true → prefix_length (dotted_text arcs) ≡ 0
-unfolding prefix_length dotted_text all_arcs
-plain_text arcs h = go arcs (keeps arcs h).long (keeps arcs h).each
+-- an identifier's text begins with a digit
+pub text_begins : (arcs : List ℕ) → is_identifier arcs ≡ true → begins_with_digit (dotted_text arcs) ≡ true
+unfolding dotted_text all_arcs
+text_begins arcs h = go arcs (keeps arcs h).long (keeps arcs h).each
   where
-    go : (list : List ℕ) → 2 ≤ length list → all_arcs list ≡ true → prefix_length (dotted_text list) ≡ 0
+    go : (list : List ℕ) → 2 ≤ length list → all_arcs list ≡ true → begins_with_digit (dotted_text list) ≡ true
     go [] long each = absurd (omega arith)
     go (arc ∷ list) long each =
         let fits = arc_fits arc (and_parts (is_arc arc) (all_arcs list) each).0 in
-        cond-false (begins_with (decimal arc ++ later_arcs list) prefix) _ _ (no_prefix (decimal arc) (later_arcs list) (digits_of arc fits) (decimal_nonempty arc fits))
+        digits_begin (decimal arc) (later_arcs list) (digits_of arc fits) (decimal_nonempty arc fits)
+
+-- what begins with a digit has no prefix
+no_prefix : (text : List ℕ) → begins_with_digit text ≡ true → prefix_length text ≡ 0
+unfolding prefix_length prefix
+no_prefix text digit = go (begins_with text prefix) refl
+  where
+    go : (v : Bool) → begins_with text prefix ≡ v → cond v (length prefix) 0 ≡ 0
+    go true e = absurd (both_ways (begins_with_digit text) (ap begins_with_digit (begins_front text prefix e)) digit)
+    go false e = refl
 
 -- the text of an identifier is read as that identifier
 pub reads_back : (arcs : List ℕ) → is_identifier arcs ≡ true → read_dotted (dotted_text arcs) ≡ Ok arcs
-reads_back arcs h = plain (dotted_text arcs) (plain_text arcs h) ∙ read_text arcs 0 h
+reads_back arcs h = plain (dotted_text arcs) (no_prefix (dotted_text arcs) (text_begins arcs h)) ∙ read_text arcs 0 h

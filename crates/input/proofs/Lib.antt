@@ -1,4 +1,5 @@
 pub mod Counted
 pub mod Digits
 pub mod Feeding
+pub mod Printed
 pub mod Taking

@@ -4,3 +4,4 @@ pub mod Fields
 pub mod Hex
 pub mod Counting
 pub mod Answers
+pub mod Laws

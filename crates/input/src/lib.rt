@@ -7,6 +7,7 @@ pub mod content;
 pub mod feed;
 pub mod fields;
 pub mod hex;
+pub mod laws;
 pub mod line;
 pub mod shown;
 pub mod tally;

@@ -4,6 +4,7 @@
 
 mod found;
 mod judging;
+mod laws;
 mod stickers_and_chips;
 mod trouble;
 
