@@ -1,8 +1,8 @@
 // Lines taken into a comparison.
-ghost use Rattle.std.specs.Prelude.{◌≡◌, ℕ, List, ◌++◌, IfOk};
+ghost use Rattle.std.specs.Prelude.{◌≡◌, ℕ, true, List, [], ◌∷◌, ◌++◌, is_ok, IfOk};
 ghost use Rattle.std.proofs.Common.{sym, subst, append_assoc};
 ghost use Rattle.std.proofs.lemmas.List.{append-nil};
-ghost use Rattle.input.specs.Lines.{LinesOf};
+ghost use Rattle.input.specs.Lines.{Took, LinesOf};
 ghost use Rattle.conformance.specs.Comparing.{Compared, GoesOn};
 
 use crate::comparison::Comparison;
@@ -15,7 +15,10 @@ use std::io::Read;
 impl LineTaker for Comparison {
     ghost taken = { GoesOn };
 
-    fn take_line(&mut self, line: &Line) -> io::Result<()> {
+    fn take_line(&mut self, line: &Line) -> io::Result<()>
+        ensures goes_on { (bytes : List ℕ) → Took line.now bytes → GoesOn self.old (bytes ∷ []) self.new }
+        ensures succeeds { is_ok result ≡ true }
+    {
         if self.first.is_some() {
             return Ok(());
         }
@@ -26,7 +29,10 @@ impl LineTaker for Comparison {
         Ok(())
     }
 
-    fn pause(&mut self) -> io::Result<()> {
+    fn pause(&mut self) -> io::Result<()>
+        ensures stays { self.new ≡ self.old }
+        ensures succeeds { is_ok result ≡ true }
+    {
         Ok(())
     }
 
