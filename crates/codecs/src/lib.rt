@@ -5,10 +5,8 @@ pub mod laws;
 pub mod notation;
 pub mod text;
 
-pub use der::{DER_LIMIT, read as read_der, split as split_der, write as write_der};
-pub use dotted::{TEXT_LIMIT, read as read_dotted, write as write_dotted};
+pub use der::{read as read_der, split as split_der, write as write_der};
+pub use dotted::{read as read_dotted, write as write_dotted};
 pub use notation::{Der, Dotted, Notation, PAGE_LIMIT};
-pub use oid::arc::ARC_LIMIT;
-pub use oid::identifier::{FEWEST_ARCS, LAST_SECOND, MOST_ARCS};
 pub use oid::{Arc, Fault, Identifier, Refusal};
 pub use text::{Described, Text};

@@ -1,10 +1,9 @@
 // Notations of identifiers: what each of them reads and writes, under one trait.
 ghost use Rattle.std.specs.Prelude.{◌≡◌, ℕ, ◌+◌, ◌≤◌, true, List, Ok, length, is_ok, Result};
-ghost use Rattle.std.specs.Result.{result_map_both};
 ghost use Rattle.std.proofs.Common.{ap};
 ghost use Rattle.oid.specs.Meaning.{arcs_of};
 ghost use Rattle.oid.specs.Pages.{new_end, page_after};
-ghost use Rattle.oid.specs.Refusals.{filled};
+ghost use Rattle.oid.specs.Refusals.{filled, told};
 ghost use Rattle.oid.specs.Tree.{is_identifier};
 ghost use Rattle.oid.specs.declared.refusal.Fault.{Fault as FaultOf};
 ghost use Rattle.dotted.specs.Reading.{read_dotted};
@@ -14,7 +13,7 @@ ghost use Rattle.der.specs.Header.{taken_in as der_taken};
 ghost use Rattle.der.specs.Reading.{read_der};
 ghost use Rattle.der.specs.Writing.{der_bytes};
 ghost use Rattle.der.proofs.Theorems.{reads_whole};
-ghost use Rattle.codecs.specs.Notations.{page_limit, told};
+ghost use Rattle.codecs.specs.Notations.{page_limit};
 
 use arrayvec::ArrayVec;
 use dotted::TEXT_LIMIT;
@@ -37,7 +36,7 @@ pub trait Notation {
     // Reads the identifier at the front of the bytes into the caller's, and answers how many bytes it took. On a fault
     // the identifier stays as it was.
     fn read(bytes: &[u8], identifier: &mut Identifier) -> Result<usize, Fault>
-        ensures value { result ≡ told reading taken_in bytes.now }
+        ensures value { result ≡ told (taken_in bytes.now) (reading bytes.now) }
         ensures after { arcs_of identifier.new ≡ filled (reading bytes.now) (arcs_of identifier.old) };
 
     // Writes the identifier into the page from a place onwards, and answers the new end. Where too little of the page
@@ -48,7 +47,7 @@ pub trait Notation {
         ensures succeeds { place + page_limit ≤ length page.old → is_ok result ≡ true };
 
     // what is written of an identifier is read as it, with nothing left over
-    ghost reads_back: { (arcs : List ℕ) → is_identifier arcs ≡ true → (reading (written arcs) ≡ Ok arcs) × (told reading taken_in (written arcs) ≡ Ok (length (written arcs))) };
+    ghost reads_back: { (arcs : List ℕ) → is_identifier arcs ≡ true → (reading (written arcs) ≡ Ok arcs) × (told (taken_in (written arcs)) (reading (written arcs)) ≡ Ok (length (written arcs))) };
 
     // What is written of the identifier, on a page of its own.
     final fn page(identifier: &Identifier) -> ArrayVec<u8, PAGE_LIMIT>
@@ -72,7 +71,7 @@ impl Notation for Dotted {
 
     ghost written = { dotted_text };
 
-    ghost reads_back = { λ arcs rule. (text_reads_back arcs rule, ap (result_map_both (λ others. length (dotted_text arcs)) (λ fault. fault)) (text_reads_back arcs rule)) };
+    ghost reads_back = { λ arcs rule. (text_reads_back arcs rule, ap (told (length (dotted_text arcs))) (text_reads_back arcs rule)) };
 
     fn read(bytes: &[u8], identifier: &mut Identifier) -> Result<usize, Fault> {
         dotted::read(bytes, identifier)?;

@@ -1,7 +1,7 @@
 -- A comparison, one line more.
 use Rattle.std.proofs.Common.{◌≡◌, ℕ, ◌+◌, ◌-◌, ◌^◌, min, List, [], ◌∷◌, ◌++◌, Some, None, Option, sym, refl, ap, ◌∙◌, arith}
 use Rattle.std.proofs.lemmas.List.{append-nil}
-use Rattle.conformance.specs.Comparing.{count_by, agreeing, first_by, first_difference, Compared}
+use Rattle.conformance.specs.Comparing.{agreeing_by, agreeing, first_by, first_difference, Compared}
 use Rattle.conformance.specs.Differences.{from_line}
 use Rattle.conformance.specs.Output.{agreed_text, first_text, comparison_text}
 use Rattle.conformance.specs.declared.comparison.Comparison.{Comparison}
@@ -38,14 +38,14 @@ agreeing_push : (lines : List (List ℕ)) (line : List ℕ)
 unfolding agreeing first_difference
 agreeing_push [] line = none (from_line line)
   where
-    none : (difference : Option Difference) → count_by difference 0 ≡ pushed None difference 0
+    none : (difference : Option Difference) → agreeing_by difference 0 ≡ pushed None difference 0
     none None = refl
     none (Some difference) = refl
 agreeing_push (one ∷ lines) line = go (from_line one) (agreeing_push lines line)
   where
     go : (difference : Option Difference)
         → agreeing (lines ++ line ∷ []) ≡ pushed (first_difference lines) (from_line line) (agreeing lines)
-        → count_by difference (agreeing (lines ++ line ∷ [])) ≡ pushed (first_by difference (first_difference lines)) (from_line line) (count_by difference (agreeing lines))
+        → agreeing_by difference (agreeing (lines ++ line ∷ [])) ≡ pushed (first_by difference (first_difference lines)) (from_line line) (agreeing_by difference (agreeing lines))
     go None e = ap (λ n. n + 1) e ∙ pushed_more (first_difference lines) (from_line line) (agreeing lines)
     go (Some difference) e = refl
 

@@ -1,17 +1,18 @@
 -- A comparison with all lines, up to the first that differs.
-use Rattle.std.specs.Prelude.{◌≡◌, ℕ, ◌+◌, ◌-◌, ◌^◌, min, List, [], ◌∷◌, ◌++◌, Some, None, Option}
+use Rattle.std.specs.Prelude.{◌≡◌, ℕ, ◌+◌, min, List, [], ◌∷◌, ◌++◌, Some, None, Option}
+use Rattle.input.specs.Counting.{most_counted}
 use Rattle.conformance.specs.Differences.{from_line}
 use Rattle.conformance.specs.declared.comparison.Comparison.{Comparison}
 use Rattle.conformance.specs.declared.difference.Difference.{Difference}
 
 -- how many lines agree before the first that differs
-abbrev pub count_by : Option Difference → ℕ → ℕ
-count_by None others = others + 1
-count_by (Some difference) others = 0
+abbrev pub agreeing_by : Option Difference → ℕ → ℕ
+agreeing_by None others = others + 1
+agreeing_by (Some difference) others = 0
 
 unfoldable pub agreeing : List (List ℕ) → ℕ
 agreeing [] = 0
-agreeing (line ∷ lines) = count_by (from_line line) (agreeing lines)
+agreeing (line ∷ lines) = agreeing_by (from_line line) (agreeing lines)
 
 -- the first difference
 abbrev pub first_by : Option Difference → Option Difference → Option Difference
@@ -24,7 +25,7 @@ first_difference (line ∷ lines) = first_by (from_line line) (first_difference 
 
 -- the comparison was given these lines
 pub record Compared (comparison : Comparison) (lines : List (List ℕ)) : Type 0 where
-  pub agreed : comparison.agreed ≡ min (agreeing lines) (2 ^ 64 - 1)
+  pub agreed : comparison.agreed ≡ min (agreeing lines) most_counted
   pub first : comparison.first ≡ first_difference lines
 
 -- the comparison went on with these lines: whatever it was given before, it was given them too

@@ -1,5 +1,5 @@
 -- Where our readers and writers differ from what a line says.
-use Rattle.std.specs.Prelude.{ℕ, Bool, false, cond, List, length, Some, None, Ok, Err, codes, Option, Result, ◌==◌, nat_le}
+use Rattle.std.specs.Prelude.{ℕ, Bool, false, cond, List, length, Some, None, Ok, Err, codes, Option, Result, ◌==◌, nat_le, if◌then◌else◌}
 use Rattle.std.specs.Str.{bytes_eq}
 use Rattle.oid.specs.Refusals.{number_of}
 use Rattle.oid.specs.declared.refusal.Fault.{Fault}
@@ -54,7 +54,12 @@ from_mark ManyLong text bytes = from_refused ArcCount Header text bytes
 -- the mark that a word stands for
 abbrev pub mark_of : List ℕ → Option Mark
 mark_of word =
-    cond (bytes_eq word (codes "equal")) (Some Equal) (cond (bytes_eq word (codes "large")) (Some Large) (cond (bytes_eq word (codes "many")) (Some Many) (cond (bytes_eq word (codes "large-long")) (Some LargeLong) (cond (bytes_eq word (codes "many-long")) (Some ManyLong) None))))
+    if bytes_eq word (codes "equal") then Some Equal
+    else if bytes_eq word (codes "large") then Some Large
+    else if bytes_eq word (codes "many") then Some Many
+    else if bytes_eq word (codes "large-long") then Some LargeLong
+    else if bytes_eq word (codes "many-long") then Some ManyLong
+    else None
 
 -- the text is the first field behind the mark, the bytes are the pairs of digits behind that
 abbrev pub by_pairs : Option ℕ → Mark → List ℕ → List ℕ → Option Difference

@@ -1,5 +1,6 @@
 -- What is written of a comparison.
-use Rattle.std.specs.Prelude.{ℕ, ◌+◌, ◌-◌, ◌^◌, min, List, [], ◌∷◌, ◌++◌, Some, None, codes, decimal, Option}
+use Rattle.std.specs.Prelude.{ℕ, ◌+◌, min, List, [], ◌∷◌, ◌++◌, Some, None, codes, decimal, Option}
+use Rattle.input.specs.Counting.{most_counted}
 use Rattle.input.specs.Hex.{pairs_of}
 use Rattle.conformance.specs.Comparing.{agreeing}
 use Rattle.conformance.specs.declared.comparison.Comparison.{Comparison}
@@ -22,7 +23,7 @@ agreed_text count = decimal count ++ codes " encodings agreed"
 abbrev pub first_text : ℕ → Option Difference → List ℕ
 first_text count None = codes ""
 first_text count (Some difference) =
-    codes "\nline " ++ (decimal (min (count + 1) (2 ^ 64 - 1)) ++ (codes " differs: " ++ words_of difference))
+    codes "\nline " ++ (decimal (min (count + 1) most_counted) ++ (codes " differs: " ++ words_of difference))
 
 -- a comparison
 abbrev pub comparison_text : Comparison → List ℕ
@@ -39,4 +40,4 @@ example_lines =
 
 -- all that is written where the examples and all lines agree
 abbrev pub output_of : List (List ℕ) → List ℕ
-output_of lines = example_lines ++ (agreed_text (min (agreeing lines) (2 ^ 64 - 1)) ++ codes "\n")
+output_of lines = example_lines ++ (agreed_text (min (agreeing lines) most_counted) ++ codes "\n")

@@ -3,14 +3,14 @@ use Rattle.std.proofs.Common.{◌≡◌, ℕ, ◌+◌, ◌-◌, true, false, con
 use Rattle.std.specs.Option.{option_map}
 use Rattle.std.proofs.lemmas.List.{length-map}
 use Rattle.std.proofs.lemmas.Bool.Decides.{nat_tests}
-use Rattle.oid.specs.Numbers.{Number, values, offsets, too_large, first_at, read_numbers}
+use Rattle.oid.specs.Numbers.{Number, values, offsets, too_large, first_at, wrong_count, read_numbers}
 use Rattle.oid.specs.Refusals.{fault_at, ask}
 use Rattle.oid.specs.Tree.{last_root}
 use Rattle.oid.specs.declared.refusal.Fault.{Fault}
 use Rattle.oid.specs.declared.refusal.Refusal.TheVariants.{LeadingZero, ArcTooLarge, FirstArcs, Unfinished, Padded}
 use Rattle.der.specs.Base128.{is_last}
 use Rattle.der.specs.Header.{header_length, contents_in, bad_header}
-use Rattle.der.specs.Reading.{first_large, wrong_arcs, read_subidentifiers, read_der}
+use Rattle.der.specs.Reading.{first_large, read_subidentifiers, read_der}
 use Rattle.der.specs.Subidentifiers.{subidentifiers_from, root_in, second_in, arcs_in, later_arc, arc_numbers}
 use Rattle.der.proofs.Joining.{root_arc, second_large, starts_apart}
 
@@ -60,8 +60,8 @@ read_arcs [] h = refl
 read_arcs (first ∷ others) h =
     let numbers = arc_numbers (first ∷ others) in
     let fault = fault_at FirstArcs (get_or (offsets numbers) (cond (ltb last_root (root_in first.value)) 0 1) 0) in
-    (λ k. ask (option_map (fault_at Padded) (h k)) (ask (option_map (fault_at ArcTooLarge) (first_large (first ∷ others))) (ask (wrong_arcs (1 + length (first ∷ others))) (Ok (arcs_in (values (first ∷ others)))))))
-    ∙ sym (λ k. ask (option_map (fault_at LeadingZero) (arcs_plain (first ∷ others) k)) (ask (option_map (fault_at ArcTooLarge) (arcs_large (first ∷ others) k)) (ask (wrong_arcs (length_arcs first others k)) (ask (cond (starts_apart first.value k) None (Some fault)) (Ok (values_arcs (first ∷ others) k))))))
+    (λ k. ask (option_map (fault_at Padded) (h k)) (ask (option_map (fault_at ArcTooLarge) (first_large (first ∷ others))) (ask (wrong_count (1 + length (first ∷ others))) (Ok (arcs_in (values (first ∷ others)))))))
+    ∙ sym (λ k. ask (option_map (fault_at LeadingZero) (arcs_plain (first ∷ others) k)) (ask (option_map (fault_at ArcTooLarge) (arcs_large (first ∷ others) k)) (ask (wrong_count (length_arcs first others k)) (ask (cond (starts_apart first.value k) None (Some fault)) (Ok (values_arcs (first ∷ others) k))))))
 
 pub read_header : (bytes : List ℕ) (fault : Fault) → Some fault ≡ bad_header bytes → read_der bytes ≡ Err fault
 unfolding read_der

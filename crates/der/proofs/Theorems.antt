@@ -1,8 +1,8 @@
 -- The laws of the encoding.
 use Rattle.std.proofs.Common.{◌≡◌, ℕ, ◌≤◌, true, List, [], ◌++◌, length, drop, Ok, Err, Result, sym, refl, ap, ◌∙◌, subst, arith}
-use Rattle.std.specs.Result.{result_map_both, result_unwrap_or}
+use Rattle.std.specs.Result.{result_unwrap_or}
 use Rattle.std.proofs.lemmas.List.{append-nil, drop_all, drop_at}
-use Rattle.oid.specs.Refusals.{filled}
+use Rattle.oid.specs.Refusals.{filled, told}
 use Rattle.oid.specs.Tree.{is_identifier}
 use Rattle.oid.specs.declared.refusal.Fault.{Fault}
 use Rattle.oid.proofs.Numbers.{asked}
@@ -14,24 +14,20 @@ use Rattle.der.proofs.Accepted.{good_header, bytes_read}
 use Rattle.der.proofs.Accepting.{taken_is, read_bytes}
 use Rattle.der.proofs.Digits.{value_base128, fewest}
 
--- what the reader tells of a reading
-abbrev pub tells : List ℕ → Result (List ℕ) Fault → Result ℕ Fault
-tells bytes reading = result_map_both (λ arcs. taken_in bytes) (λ fault. fault) reading
-
 -- an encoding and a rest are read as the identifier, and the encoding is taken
 encoded_read : (bytes arcs rest : List ℕ) → Encodes bytes arcs rest → read_der bytes ≡ Ok arcs
 encoded_read bytes arcs rest h = ap read_der h.1 ∙ read_bytes arcs h.0 rest
 
 encoded_taken : (bytes arcs rest : List ℕ) → Encodes bytes arcs rest → taken bytes ≡ Ok (length (der_bytes arcs))
 encoded_taken bytes arcs rest h =
-    ap (tells bytes) (encoded_read bytes arcs rest h) ∙ ap Ok (ap taken_in h.1 ∙ taken_is arcs h.0 rest)
+    ap (told (taken_in bytes)) (encoded_read bytes arcs rest h) ∙ ap Ok (ap taken_in h.1 ∙ taken_is arcs h.0 rest)
 
 -- no more bytes are taken than there are
 pub taken_within : (bytes : List ℕ) → result_unwrap_or (taken bytes) 0 ≤ length bytes
 unfolding read_der
 taken_within bytes = go (read_der bytes) refl
   where
-    go : (reading : Result (List ℕ) Fault) → read_der bytes ≡ reading → result_unwrap_or (tells bytes reading) 0 ≤ length bytes
+    go : (reading : Result (List ℕ) Fault) → read_der bytes ≡ reading → result_unwrap_or (told (taken_in bytes) reading) 0 ≤ length bytes
     go (Ok arcs) same = (good_header bytes (asked (bad_header bytes) _ arcs same).0).there
     go (Err fault) same = omega arith
 
@@ -40,7 +36,7 @@ pub exactly : (bytes before : List ℕ) (answer : Result ℕ Fault) (arcs : List
     → answer ≡ taken bytes → arcs ≡ filled (read_der bytes) before → Exactly bytes answer arcs
 exactly bytes before answer arcs each value after = (λ count e. to count (read_der bytes) refl (sym value ∙ e), from)
   where
-    to : (count : ℕ) (reading : Result (List ℕ) Fault) → read_der bytes ≡ reading → tells bytes reading ≡ Ok count
+    to : (count : ℕ) (reading : Result (List ℕ) Fault) → read_der bytes ≡ reading → told (taken_in bytes) reading ≡ Ok count
         → Encodes bytes arcs (drop count bytes)
     to count (Ok found) same e =
         let here : taken_in bytes ≡ count = cc in
@@ -58,9 +54,9 @@ pub record Tells (bytes before : List ℕ) (answer : Result ℕ Fault) (arcs : L
   pub exact : Exactly bytes answer arcs
 
 pub reading_told : (bytes before : List ℕ) (answer : Result ℕ Fault) (arcs : List ℕ) (reading : Result (List ℕ) Fault) → Bytes bytes
-    → read_der bytes ≡ reading → answer ≡ tells bytes reading → arcs ≡ filled reading before → Tells bytes before answer arcs
+    → read_der bytes ≡ reading → answer ≡ told (taken_in bytes) reading → arcs ≡ filled reading before → Tells bytes before answer arcs
 reading_told bytes before answer arcs reading each is answered filled_with =
-    let value = answered ∙ sym (ap (tells bytes) is) in
+    let value = answered ∙ sym (ap (told (taken_in bytes)) is) in
     let after = filled_with ∙ sym (ap (λ r. filled r before) is) in
     record { value = value; after = after; exact = exactly bytes before answer arcs each value after }
 
@@ -78,7 +74,7 @@ splits bytes count rest each value after = (found, none (read_der bytes) refl)
         → ((arcs others : List ℕ) → Encodes bytes arcs others → ⊥) → (count ≡ 0) × (rest ≡ bytes)
     none (Ok arcs) same never = absurd (never arcs _ (bytes_read bytes arcs each same))
     none (Err fault) same never =
-        let zero = value ∙ ap (λ r. result_unwrap_or (tells bytes r) 0) same in
+        let zero = value ∙ ap (λ r. result_unwrap_or (told (taken_in bytes) r) 0) same in
         (zero, after ∙ ap (λ n. drop n bytes) zero)
 
 -- the encoding alone is read with nothing left over
@@ -89,7 +85,7 @@ reads_whole arcs h =
 
 -- where nothing is left over, as many bytes are taken as there are
 pub whole_taken : (bytes arcs : List ℕ) → ReadsWhole bytes arcs → taken_in bytes ≡ length bytes
-whole_taken bytes arcs h = cc (ap (tells bytes) (sym h.0) ∙ h.1)
+whole_taken bytes arcs h = cc (ap (told (taken_in bytes)) (sym h.0) ∙ h.1)
 
 -- what is read as arcs with nothing left over is their encoding
 pub whole_bytes : (bytes arcs : List ℕ) → Bytes bytes → ReadsWhole bytes arcs → bytes ≡ der_bytes arcs

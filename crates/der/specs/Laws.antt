@@ -43,7 +43,7 @@ abbrev pub OneEncoding : Type 0
 OneEncoding =
     (one other arcs : List ℕ) → Bytes one → Bytes other → ReadsWhole one arcs → ReadsWhole other arcs → one ≡ other
 
--- The bytes of a number stand for it, and no other bytes that do are fewer.
+-- The bytes of a number stand for it, and no other bytes that do, one at least, are fewer.
 abbrev pub FewestBytes : Type 0
 FewestBytes =
     (number : ℕ)

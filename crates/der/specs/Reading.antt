@@ -1,13 +1,12 @@
 -- The reading of an identifier from the front of some bytes: its questions, in order.
-use Rattle.std.specs.Prelude.{ℕ, ◌+◌, ◌-◌, cond, ◌&&◌, List, [], ◌∷◌, length, Some, None, Ok, Option, Result, nat_le, nat_lt, slice_index}
+use Rattle.std.specs.Prelude.{ℕ, ◌+◌, ◌-◌, cond, List, [], ◌∷◌, length, Some, None, Ok, Option, Result, nat_lt, slice_index}
 use Rattle.std.specs.Option.{option_map}
-use Rattle.std.specs.Result.{result_map_both}
 use Rattle.oid.specs.Arcs.{arc_limit}
-use Rattle.oid.specs.Numbers.{Number, values, too_large, first_at}
-use Rattle.oid.specs.Refusals.{fault_at, ask}
-use Rattle.oid.specs.Tree.{fewest_arcs, most_arcs, last_root}
+use Rattle.oid.specs.Numbers.{Number, values, too_large, first_at, wrong_count}
+use Rattle.oid.specs.Refusals.{fault_at, ask, told}
+use Rattle.oid.specs.Tree.{last_root}
 use Rattle.oid.specs.declared.refusal.Fault.{Fault}
-use Rattle.oid.specs.declared.refusal.Refusal.TheVariants.{ArcTooLarge, ArcCount, Unfinished, Padded}
+use Rattle.oid.specs.declared.refusal.Refusal.TheVariants.{ArcTooLarge, Unfinished, Padded}
 use Rattle.der.specs.Base128.{is_last}
 use Rattle.der.specs.Header.{header_length, taken_in, contents_in, bad_header}
 use Rattle.der.specs.Subidentifiers.{subidentifiers_from, joined_arcs, arcs_in}
@@ -31,14 +30,10 @@ first_large (first ∷ others) = cond (nat_lt (joined_arcs last_root arc_limit) 
 abbrev pub large_subidentifiers : List Number → Option Fault
 large_subidentifiers subidentifiers = option_map (fault_at ArcTooLarge) (first_large subidentifiers)
 
--- 4. Are there as many arcs as an identifier has, 2 to 16? A no is told at offset 0.
-abbrev pub wrong_arcs : ℕ → Option Fault
-wrong_arcs count = cond (nat_le fewest_arcs count && nat_le count most_arcs) None (Some (fault_at ArcCount 0))
-
 -- Questions 8, 3 and 4, put to the subidentifiers; there is one arc more than there are of these.
 unfoldable pub read_subidentifiers : List Number → Result (List ℕ) Fault
 read_subidentifiers subidentifiers =
-    ask (padded_subidentifiers subidentifiers) (ask (large_subidentifiers subidentifiers) (ask (wrong_arcs (1 + length subidentifiers)) (Ok (arcs_in (values subidentifiers)))))
+    ask (padded_subidentifiers subidentifiers) (ask (large_subidentifiers subidentifiers) (ask (wrong_count (1 + length subidentifiers)) (Ok (arcs_in (values subidentifiers)))))
 
 -- The arcs of the identifier at the front, or the first no.
 unfoldable pub read_der : List ℕ → Result (List ℕ) Fault
@@ -47,4 +42,4 @@ read_der bytes =
 
 -- What the reader tells: the bytes taken, or the fault.
 abbrev pub taken : List ℕ → Result ℕ Fault
-taken bytes = result_map_both (λ arcs. taken_in bytes) (λ fault. fault) (read_der bytes)
+taken bytes = told (taken_in bytes) (read_der bytes)

@@ -11,4 +11,4 @@ mod tests;
 pub mod writer;
 
 pub use reader::{read, split};
-pub use writer::{DER_LIMIT, write};
+pub use writer::write;

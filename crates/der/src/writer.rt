@@ -11,9 +11,6 @@ use crate::header::{HEADER_LENGTH, TAG};
 use crate::subidentifiers::arcs::PER_ROOT;
 use oid::{Arc, Identifier, Refusal, fits};
 
-// No identifier's encoding has more bytes: the header, and as many bytes as one byte tells the length of.
-pub const DER_LIMIT: usize = 129;
-
 // Writes the identifier's encoding into the page from a place onwards, and answers the new end. What it wrote reads
 // back as the identifier, with nothing left over. Where too little of the page is left, or the place lies past its
 // end, it refuses, and the page is untouched.

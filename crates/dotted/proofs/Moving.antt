@@ -108,8 +108,8 @@ module _ (bytes : ℕ) where
   at_byte refusal moves o (Some n) e = ap (options.option_map (fault_at refusal)) e ∙ ap Some (sym (moves n))
 
   count_moved : (numbers : List Number)
-      → wrong_count (map moved_number numbers) ≡ options.option_map (further bytes) (wrong_count numbers)
-  count_moved numbers = ap (λ n. cond (right_count n) None (Some (fault_at ArcCount 0))) (length-map numbers moved_number)
+      → wrong_count (length (map moved_number numbers)) ≡ options.option_map (further bytes) (wrong_count (length numbers))
+  count_moved numbers = ap wrong_count (length-map numbers moved_number)
       ∙ go (right_count (length numbers))
     where
       go : (v : Bool)
@@ -117,7 +117,7 @@ module _ (bytes : ℕ) where
       go true = refl
       go false = refl
 
-  start_moved : (numbers : List Number) → wrong_count numbers ≡ None
+  start_moved : (numbers : List Number) → wrong_count (length numbers) ≡ None
       → wrong_start (map moved_number numbers) ≡ options.option_map (further bytes) (wrong_start numbers)
   start_moved numbers enough =
       let counts =
@@ -145,7 +145,7 @@ module _ (bytes : ℕ) where
   numbers_moved numbers =
       ask_moved (leading_zeros numbers) _ _ _ (at_byte LeadingZero (λ _. refl) _ _ (first_at_moved (λ number. number.padded) (λ _. refl) numbers)) (λ _.
       ask_moved (large_numbers numbers) _ _ _ (at_byte ArcTooLarge (λ _. refl) _ _ (first_at_moved too_large (λ _. refl) numbers)) (λ _.
-      ask_moved (wrong_count numbers) _ _ _ (count_moved numbers) (λ enough.
+      ask_moved (wrong_count (length numbers)) _ _ _ (count_moved numbers) (λ enough.
       ask_moved (wrong_start numbers) _ _ _ (start_moved numbers enough) (λ _. ap Ok (values_moved numbers)))))
 
   pub read_moved : (text : List ℕ) (offset : ℕ) → read_from (later offset) text ≡ read_further bytes (read_from offset text)

@@ -1,6 +1,6 @@
 -- A line, one byte more, and the last one.
 use Rattle.std.proofs.Common.{◌≡◌, ℕ, ◌+◌, ◌<◌, ◌≤◌, min, true, false, eqb, leb, List, [], ◌∷◌, ◌++◌, length, take, sym, refl, ap, ◌∙◌, ⊎_elim, arith}
-use Rattle.std.proofs.lemmas.List.{length_push, length-take, take_all, take-take, take-append-le}
+use Rattle.std.proofs.lemmas.List.{length_push, length-take, take_all, take-append-le}
 use Rattle.std.proofs.lemmas.Bool.{both_ways, eqb-true, lt-leb, cases_lt}
 use Rattle.input.specs.Lines.{last_line}
 
@@ -20,9 +20,6 @@ module _ (limit : ℕ) (bytes kept : List ℕ) (took : kept ≡ take (limit + 1)
       (λ long. lt-leb (length kept) limit long ∙ sym (lt-leb (length bytes) limit (long_taken long)))
       (λ short. ap (λ l. leb (length l) limit) (whole_kept short))
       (cases_lt limit (length kept))
-
-  pub kept_front : take limit kept ≡ take limit bytes
-  kept_front = ap (take limit) took ∙ take-take limit (limit + 1) bytes (omega arith)
 
   module _ (byte : ℕ) where
     pub kept_more : length kept ≤ limit → kept ++ byte ∷ [] ≡ take (limit + 1) (bytes ++ byte ∷ [])

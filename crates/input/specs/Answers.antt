@@ -5,10 +5,10 @@ use Rattle.std.specs.List.{flat_map}
 use Rattle.input.specs.Limits.{line_feed}
 use Rattle.input.specs.Counting.{tally_of, counts_said}
 
--- an answer: `ok` and what was found, or `no` and the trouble, as they are printed
-abbrev pub answered : {Found Trouble : Type 0} → (Found → Option (List ℕ)) → (Trouble → Option (List ℕ)) → Result Found Trouble → Option (List ℕ)
-answered found_text trouble_text (Ok found) = prepend_known (codes "ok ") (found_text found)
-answered found_text trouble_text (Err trouble) = prepend_known (codes "no ") (trouble_text trouble)
+-- an answer in words: `ok` and what was found, or `no` and the trouble, as they are printed
+abbrev pub in_words : {Found Trouble : Type 0} → (Found → Option (List ℕ)) → (Trouble → Option (List ℕ)) → Result Found Trouble → Option (List ℕ)
+in_words found_text trouble_text (Ok found) = prepend_known (codes "ok ") (found_text found)
+in_words found_text trouble_text (Err trouble) = prepend_known (codes "no ") (trouble_text trouble)
 
 -- the answers to some lines, each on a line of its own
 abbrev pub answers : (List ℕ → List ℕ) → List (List ℕ) → List ℕ

@@ -5,7 +5,7 @@ ghost use Rattle.std.proofs.Common.{sym, ap, ◌∙◌, subst};
 ghost use Rattle.std.proofs.KnownBytes.{Appends-nil, Appends-trans};
 ghost use Rattle.std.proofs.lemmas.Grind.{flat_map-append};
 ghost use Rattle.std.proofs.lemmas.List.Sums.{fold-append};
-ghost use Rattle.input.specs.Answers.{answered, answers, report};
+ghost use Rattle.input.specs.Answers.{in_words, answers, report};
 ghost use Rattle.input.specs.Counting.{counted, all_counted, tally_of, counts_said};
 ghost use Rattle.input.specs.Lines.{Took, LinesOf};
 
@@ -19,13 +19,13 @@ use std::io::{Read, Write};
 
 // What a program makes of a line.
 pub trait Checker {
-    // whether a line is read as an identifier
+    // whether a line is good
     ghost good: { List ℕ → Bool };
 
     // the answer to a line
     ghost answer: { List ℕ → List ℕ };
 
-    // What is printed of a line that is, and of one that is not.
+    // What is printed of a good line, and of another.
     type Found: Display + Drop;
 
     type Trouble: Display + Drop;
@@ -34,7 +34,7 @@ pub trait Checker {
     fn check(&self, line: &Line) -> Result<Self::Found, Self::Trouble>
         ensures is_read { (bytes : List ℕ) → Took line.now bytes → is_ok result ≡ good bytes }
         ensures says { (bytes : List ℕ) → Took line.now bytes
-            → answered Self.Found.output Self.Trouble.output result ≡ Some (answer bytes) };
+            → in_words Self.Found.output Self.Trouble.output result ≡ Some (answer bytes) };
 }
 
 // The lines so far, counted; answers are written as the lines come.

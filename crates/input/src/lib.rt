@@ -1,5 +1,5 @@
-// What the programs read and count: lines of input in memory that does not grow with them, their fields, and pairs of
-// hexadecimal digits.
+// What the programs share: lines of input in memory that does not grow with them, checked, counted and answered; their
+// fields; and pairs of hexadecimal digits.
 #![tactic(auto)]
 
 pub mod checking;
@@ -18,7 +18,6 @@ pub use checking::{Checked, Checker, check_lines};
 pub use content::{Unpaired, content_of};
 pub use feed::{LineTaker, read_lines};
 pub use fields::split_field;
-pub use hex::{first_unpaired, read_pairs};
 pub use line::{LINE_LIMIT, Line};
 pub use shown::{Pairs, TooLong};
 pub use tally::Tally;

@@ -61,15 +61,6 @@ impl Line {
         self.bytes.len() <= LINE_LIMIT
     }
 
-    // The bytes it has taken, as many as may be read.
-    pub fn bytes(&self) -> &[u8]
-        ensures value { (bytes : List ℕ) → Took self.now bytes → result.now ≡ take line_limit bytes }
-        ensures bound { length result.now ≤ line_limit }
-    {
-        let count = self.bytes.len().min(LINE_LIMIT);
-        &self.bytes[..count]
-    }
-
     // All bytes it has taken; none of a line that is too long.
     pub fn whole(&self) -> Option<&[u8]>
         ensures value { (bytes : List ℕ) → Took self.now bytes

@@ -1,4 +1,4 @@
-// How many lines were read, and how many of them refused.
+// How many lines there were, and how many of them were not good.
 ghost use Rattle.std.specs.Prelude.{◌≡◌, Some};
 ghost use Rattle.input.specs.Counting.{counted, none_counted, counts_said};
 
@@ -22,12 +22,12 @@ impl Tally {
         }
     }
 
-    // Counts a line, by whether it was read as an identifier.
-    pub fn count(&mut self, is_read: bool)
-        ensures { self.new ≡ counted is_read self.old }
+    // Counts a line, which is good or not.
+    pub fn count(&mut self, is_good: bool)
+        ensures { self.new ≡ counted is_good self.old }
     {
         self.read = self.read.saturating_add(1);
-        if !is_read {
+        if !is_good {
             self.refused = self.refused.saturating_add(1);
         }
     }

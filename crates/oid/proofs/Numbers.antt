@@ -122,7 +122,7 @@ unfolding read_numbers
 accepted numbers arcs e =
     let zeros = asked (leading_zeros numbers) _ arcs e in
     let larges = asked (large_numbers numbers) _ arcs zeros.1 in
-    let count = asked (wrong_count numbers) _ arcs larges.1 in
+    let count = asked (wrong_count (length numbers)) _ arcs larges.1 in
     let start = asked (wrong_start numbers) _ arcs count.1 in
     let large = none_mapped (fault_at ArcTooLarge) (first_at too_large numbers) larges.0 in
     let counts =

@@ -1,4 +1,4 @@
--- The questions that every notation shares, put to the numbers that it wrote, in their order.
+-- Questions 2 to 5, put to the numbers that a notation wrote, in their order.
 use Rattle.std.specs.Prelude.{ℕ, Bool, cond, not, ◌&&◌, List, [], ◌∷◌, map, length, Some, None, Ok, Option, Result, nat_le, nat_lt, slice_index, slice_index_or}
 use Rattle.std.specs.Option.{option_map}
 use Rattle.oid.specs.Arcs.{is_arc}
@@ -36,9 +36,9 @@ leading_zeros numbers = option_map (fault_at LeadingZero) (first_at (λ number. 
 abbrev pub large_numbers : List Number → Option Fault
 large_numbers numbers = option_map (fault_at ArcTooLarge) (first_at too_large numbers)
 
--- 4. Are there as many numbers as an identifier has, 2 to 16? A no is told at offset 0.
-abbrev pub wrong_count : List Number → Option Fault
-wrong_count numbers = cond (nat_le fewest_arcs (length numbers) && nat_le (length numbers) most_arcs) None (Some (fault_at ArcCount 0))
+-- 4. Are there as many arcs as an identifier has, 2 to 16? A no is told at offset 0.
+abbrev pub wrong_count : ℕ → Option Fault
+wrong_count count = cond (nat_le fewest_arcs count && nat_le count most_arcs) None (Some (fault_at ArcCount 0))
 
 -- 5. May an identifier begin with the first two numbers? A no is told at the first if it is no root, else at the
 -- second.
@@ -51,4 +51,4 @@ wrong_start numbers =
 -- The arcs that the numbers stand for, or the first no.
 unfoldable pub read_numbers : List Number → Result (List ℕ) Fault
 read_numbers numbers =
-    ask (leading_zeros numbers) (ask (large_numbers numbers) (ask (wrong_count numbers) (ask (wrong_start numbers) (Ok (values numbers)))))
+    ask (leading_zeros numbers) (ask (large_numbers numbers) (ask (wrong_count (length numbers)) (ask (wrong_start numbers) (Ok (values numbers)))))

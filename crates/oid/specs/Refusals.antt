@@ -36,6 +36,11 @@ abbrev pub answered : Result (List ℕ) Fault → Result (Unit {0}) Fault
 answered (Ok arcs) = Ok tt
 answered (Err fault) = Err fault
 
+-- The same of a reader that tells how many bytes it took, which are so many where it reads some arcs.
+abbrev pub told : ℕ → Result (List ℕ) Fault → Result ℕ Fault
+told count (Ok arcs) = Ok count
+told count (Err fault) = Err fault
+
 -- The arcs that the caller's identifier has after a reading, where it had `before`.
 abbrev pub filled : Result (List ℕ) Fault → List ℕ → List ℕ
 filled (Ok arcs) before = arcs

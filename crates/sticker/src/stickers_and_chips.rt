@@ -1,7 +1,6 @@
 // Stickers and chips as lines to be checked.
 ghost use Rattle.std.specs.Prelude.{◌≡◌, ℕ, List, Some, is_ok, IfOk};
 ghost use Rattle.std.specs.Io.KnownBytes.{Appends};
-ghost use Rattle.input.specs.Answers.{answered};
 ghost use Rattle.input.specs.Lines.{Took, LinesOf};
 ghost use Rattle.sticker.specs.Answers.{said, on_line, good_line, printed, answer_to, output_of};
 
