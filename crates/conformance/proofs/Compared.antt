@@ -1,24 +1,25 @@
 -- A comparison, one line more.
 use Rattle.std.proofs.Common.{◌≡◌, ℕ, ◌+◌, ◌-◌, ◌^◌, min, List, [], ◌∷◌, ◌++◌, Some, None, Option, sym, refl, ap, ◌∙◌, arith}
-use Rattle.std.proofs.lemmas.List.{append-nil}
-use Rattle.conformance.specs.Comparing.{agreeing_by, agreeing, first_by, first_difference, Compared}
+use Rattle.std.specs.Option.{option_or}
+use Rattle.input.specs.Counting.{most_counted}
+use Rattle.conformance.specs.Comparing.{agreeing_by, agreeing, first_difference, Compared}
 use Rattle.conformance.specs.Differences.{from_line}
-use Rattle.conformance.specs.Output.{agreed_text, first_text, comparison_text}
+use Rattle.conformance.specs.Output.{lines_text, comparison_text}
 use Rattle.conformance.specs.declared.comparison.Comparison.{Comparison}
 use Rattle.conformance.specs.declared.difference.Difference.{Difference}
 
 first_push : (lines : List (List ℕ)) (line : List ℕ)
-    → first_difference (lines ++ line ∷ []) ≡ first_by (first_difference lines) (from_line line)
+    → first_difference (lines ++ line ∷ []) ≡ option_or (first_difference lines) (from_line line)
 unfolding first_difference
 first_push [] line = none (from_line line)
   where
-    none : (difference : Option Difference) → first_by difference None ≡ difference
+    none : (difference : Option Difference) → option_or difference None ≡ difference
     none None = refl
     none (Some difference) = refl
 first_push (one ∷ lines) line = go (from_line one) (first_push lines line)
   where
-    go : (difference : Option Difference) → first_difference (lines ++ line ∷ []) ≡ first_by (first_difference lines) (from_line line)
-        → first_by difference (first_difference (lines ++ line ∷ [])) ≡ first_by (first_by difference (first_difference lines)) (from_line line)
+    go : (difference : Option Difference) → first_difference (lines ++ line ∷ []) ≡ option_or (first_difference lines) (from_line line)
+        → option_or difference (first_difference (lines ++ line ∷ [])) ≡ option_or (option_or difference (first_difference lines)) (from_line line)
     go None e = e
     go (Some difference) e = refl
 
@@ -45,7 +46,7 @@ agreeing_push (one ∷ lines) line = go (from_line one) (agreeing_push lines lin
   where
     go : (difference : Option Difference)
         → agreeing (lines ++ line ∷ []) ≡ pushed (first_difference lines) (from_line line) (agreeing lines)
-        → agreeing_by difference (agreeing (lines ++ line ∷ [])) ≡ pushed (first_by difference (first_difference lines)) (from_line line) (agreeing_by difference (agreeing lines))
+        → agreeing_by difference (agreeing (lines ++ line ∷ [])) ≡ pushed (option_or difference (first_difference lines)) (from_line line) (agreeing_by difference (agreeing lines))
     go None e = ap (λ n. n + 1) e ∙ pushed_more (first_difference lines) (from_line line) (agreeing lines)
     go (Some difference) e = refl
 
@@ -60,7 +61,7 @@ module _ (before after : Comparison) (lines : List (List ℕ)) (line : List ℕ)
       let found = sym known.first ∙ e in
       record {
         agreed = same_agreed ∙ known.agreed ∙ sym (ap (λ n. min n cap) (agreeing_push lines line ∙ ap (λ o. pushed o (from_line line) (agreeing lines)) found));
-        first = same_first ∙ e ∙ sym (first_push lines line ∙ ap (λ o. first_by o (from_line line)) found);
+        first = same_first ∙ e ∙ sym (first_push lines line ∙ ap (λ o. option_or o (from_line line)) found);
       }
 
   module _ (none : before.first ≡ None) where
@@ -71,7 +72,7 @@ module _ (before after : Comparison) (lines : List (List ℕ)) (line : List ℕ)
         → after.agreed ≡ before.agreed → Compared after (lines ++ line ∷ [])
     compared_differs difference e now same_agreed = record {
       agreed = same_agreed ∙ known.agreed ∙ sym (ap (λ n. min n cap) (agreeing_push lines line ∙ (λ k. pushed (so_far k) (sym e k) (agreeing lines))));
-      first = now ∙ sym (first_push lines line ∙ (λ k. first_by (so_far k) (sym e k)));
+      first = now ∙ sym (first_push lines line ∙ (λ k. option_or (so_far k) (sym e k)));
     }
 
     pub compared_agrees : None ≡ from_line line → after.first ≡ None → after.agreed ≡ min (before.agreed + 1) cap
@@ -80,12 +81,10 @@ module _ (before after : Comparison) (lines : List (List ℕ)) (line : List ℕ)
         let counted = agreeing_push lines line ∙ (λ k. pushed (so_far k) (sym e k) (agreeing lines)) in
         record {
           agreed = omega (arith, more, known.agreed, counted);
-          first = still ∙ sym (first_push lines line ∙ (λ k. first_by (so_far k) (sym e k)));
+          first = still ∙ sym (first_push lines line ∙ (λ k. option_or (so_far k) (sym e k)));
         }
 
--- what is said where none differs
-pub agreed_said : (comparison : Comparison) (lines : List (List ℕ)) → Compared comparison lines → comparison.first ≡ None
-    → comparison_text comparison ≡ agreed_text (min (agreeing lines) (2 ^ 64 - 1))
-agreed_said comparison lines known none =
-    ap (λ first. agreed_text comparison.agreed ++ first_text comparison.agreed first) none
-    ∙ append-nil (agreed_text comparison.agreed) ∙ ap agreed_text known.agreed
+-- what is said of it
+pub compared_said : (comparison : Comparison) (lines : List (List ℕ)) → Compared comparison lines
+    → comparison_text comparison ≡ lines_text (min (agreeing lines) most_counted) (first_difference lines)
+compared_said comparison lines known = λ k. lines_text (known.agreed k) (known.first k)

@@ -1,5 +1,6 @@
 -- A comparison with all lines, up to the first that differs.
 use Rattle.std.specs.Prelude.{◌≡◌, ℕ, ◌+◌, min, List, [], ◌∷◌, ◌++◌, Some, None, Option}
+use Rattle.std.specs.Option.{option_or}
 use Rattle.input.specs.Counting.{most_counted}
 use Rattle.conformance.specs.Differences.{from_line}
 use Rattle.conformance.specs.declared.comparison.Comparison.{Comparison}
@@ -15,13 +16,9 @@ agreeing [] = 0
 agreeing (line ∷ lines) = agreeing_by (from_line line) (agreeing lines)
 
 -- the first difference
-abbrev pub first_by : Option Difference → Option Difference → Option Difference
-first_by None others = others
-first_by (Some difference) others = Some difference
-
 unfoldable pub first_difference : List (List ℕ) → Option Difference
 first_difference [] = None
-first_difference (line ∷ lines) = first_by (from_line line) (first_difference lines)
+first_difference (line ∷ lines) = option_or (from_line line) (first_difference lines)
 
 -- the comparison was given these lines
 pub record Compared (comparison : Comparison) (lines : List (List ℕ)) : Type 0 where

@@ -8,12 +8,14 @@ mod judging;
 mod mark;
 mod running;
 mod taking;
+#[cfg(test)]
+mod tests;
 
+use anyhow::ensure;
 use running::compare_all;
-use std::io::BufWriter;
 
 fn main(rt: HostRuntime) -> anyhow::Result<()> {
-    let mut input = rt.stdin();
-    let mut out = BufWriter::new(rt.alloc(), rt.stdout())?;
-    compare_all(rt.alloc(), &mut input, &mut out)
+    let (first, _) = compare_all(rt.alloc(), &mut rt.stdin(), rt.stdout())?;
+    ensure!(first.is_none(), "not all agree");
+    Ok(())
 }

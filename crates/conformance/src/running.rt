@@ -1,20 +1,19 @@
 // The examples and all lines compared, and what came of it written.
-ghost use Rattle.std.specs.Prelude.{◌≡◌, ℕ, List, ◌++◌, None, codes, OnOk};
+ghost use Rattle.std.specs.Prelude.{◌≡◌, ℕ, List, ◌++◌, codes, IfOk, OnOk};
+ghost use Rattle.std.specs.Io.Buffered.{writer_contents};
 ghost use Rattle.std.specs.Io.KnownBytes.{Appends};
 ghost use Rattle.input.specs.Lines.{LinesOf};
-ghost use Rattle.conformance.specs.Comparing.{first_difference};
-ghost use Rattle.conformance.specs.Differences.{from_equal};
-ghost use Rattle.conformance.specs.Output.{comparison_text, example_line, output_of};
+ghost use Rattle.conformance.specs.Output.{comparison_text, example_line, first_of_all, from_example, output_of};
 
 use crate::case::Case;
 use crate::comparison::Comparison;
+use crate::difference::Difference;
 use crate::mark::Mark;
 use crate::taking::compare_lines;
-use anyhow::bail;
 use input::Pairs;
 use std::alloc::Global;
 use std::io;
-use std::io::{Read, Write};
+use std::io::{BufWriter, Read, Write};
 
 // X.690's example of an object identifier.
 const STANDARDS: Case<'static> = Case {
@@ -28,38 +27,30 @@ const NEWER: Case<'static> = Case {
     encoding: &[0x06, 0x03, 0x88, 0x37, 0x03],
 };
 
-// Compares the examples and then all lines of the input. It ends well only where all agree.
-pub fn compare_all<R: Read, W: Write>(
+// Compares the examples and then all lines of the input, and writes what came of it. The answer is the first
+// difference, if there is one.
+pub fn compare_all<R: Read, W: Write + Drop>(
     heap: Global,
     input: &mut R,
-    out: &mut W,
-) -> anyhow::Result<()>
-    ensures { OnOk result ((lines : List (List ℕ)) × LinesOf (R.remaining input.old) lines
-        × (first_difference lines ≡ None)
-        × Appends (W.contents out.old) (W.contents out.new) (output_of lines)) }
+    out: W,
+) -> anyhow::Result<(Option<Difference>, W)>
+    ensures { IfOk result (λ done. (lines : List (List ℕ)) × LinesOf (R.remaining input.old) lines
+        × (done.0 ≡ first_of_all lines)
+        × Appends (W.contents out) (W.contents done.1) (output_of lines)) }
 {
-    compare_example(&STANDARDS, out)?;
-    compare_example(&NEWER, out)?;
+    let mut buffered = BufWriter::new(heap, out)?;
+    let standards = compare_example(&STANDARDS, &mut buffered)?;
+    let newer = compare_example(&NEWER, &mut buffered)?;
     let comparison = compare_lines(heap, input)?;
-    write_comparison(&comparison, out)?;
-    match comparison.first {
-        None => Ok(()),
-        Some(_) => bail!("a line differs"),
-    }
+    let first = standards.or(newer).or(comparison.first);
+    let out = finish(&comparison, buffered)?;
+    Ok((first, out))
 }
 
-// Writes what came of the comparison.
-fn write_comparison<W: Write>(comparison: &Comparison, out: &mut W) -> io::Result<()>
-    ensures { OnOk result (Appends (W.contents out.old) (W.contents out.new) (comparison_text comparison.now ++ codes "\n")) }
-{
-    writeln!(out, "{comparison}")?;
-    out.flush()
-}
-
-// Compares an example, and says so.
-fn compare_example<W: Write>(example: &Case, out: &mut W) -> anyhow::Result<()>
-    ensures { OnOk result ((from_equal example.now.text.now example.now.encoding.now ≡ None)
-        × Appends (W.contents out.old) (W.contents out.new) (example_line example.now.text.now example.now.encoding.now)) }
+// Compares an example, writes what came of it, and answers how we differ.
+fn compare_example<W: Write>(example: &Case, out: &mut W) -> io::Result<Option<Difference>>
+    ensures { IfOk result (λ difference. (difference ≡ from_example (record { text = example.now.text.now; encoding = example.now.encoding.now }))
+        × Appends (W.contents out.old) (W.contents out.new) (example_line (record { text = example.now.text.now; encoding = example.now.encoding.now }))) }
 {
     let encoding = Pairs {
         bytes: example.encoding,
@@ -67,11 +58,22 @@ fn compare_example<W: Write>(example: &Case, out: &mut W) -> anyhow::Result<()>
     };
     out.write_all(example.text)?;
     write!(out, " is {encoding}: ")?;
-    if let Err(difference) = example.compare(Mark::Equal) {
-        writeln!(out, "{difference}")?;
-        out.flush()?;
-        bail!("an example differs");
+    match example.compare(Mark::Equal) {
+        Ok(()) => {
+            writeln!(out, "agreed")?;
+            Ok(None)
+        }
+        Err(difference) => {
+            writeln!(out, "{difference}")?;
+            Ok(Some(difference))
+        }
     }
-    writeln!(out, "agreed")?;
-    Ok(())
+}
+
+// Writes what came of the lines, and hands over what the buffer still has.
+fn finish<W: Write + Drop>(comparison: &Comparison, mut buffered: BufWriter<W>) -> io::Result<W>
+    ensures { IfOk result (λ out. Appends (writer_contents W.contents buffered) (W.contents out) (comparison_text comparison.now ++ codes "\n")) }
+{
+    writeln!(buffered, "{comparison}")?;
+    Ok(buffered.into_inner()?)
 }

@@ -1,3 +1,4 @@
+pub mod Buffers
 pub mod Counted
 pub mod Digits
 pub mod Feeding

@@ -1,6 +1,7 @@
 // Lines checked, counted and answered, one after the other.
 ghost use Rattle.std.specs.Prelude.{◌≡◌, ℕ, Bool, List, [], ◌∷◌, ◌++◌, Some, is_ok, IfOk, OnOk, codes, refl};
-ghost use Rattle.std.specs.Io.KnownBytes.{Appends};
+ghost use Rattle.std.specs.Io.Buffered.{writer_contents};
+ghost use Rattle.std.specs.Io.KnownBytes.{Appends, Keeps};
 ghost use Rattle.std.proofs.Common.{sym, ap, ◌∙◌, subst};
 ghost use Rattle.std.proofs.KnownBytes.{Appends-nil, Appends-trans};
 ghost use Rattle.std.proofs.lemmas.Grind.{flat_map-append};
@@ -15,7 +16,7 @@ use crate::tally::Tally;
 use std::alloc::Global;
 use std::fmt::Display;
 use std::io;
-use std::io::{Read, Write};
+use std::io::{BufWriter, Read, Write};
 
 // What a program makes of a line.
 pub trait Checker {
@@ -64,7 +65,11 @@ impl<C: Checker, W: Write> LineTaker for Checked<C, W> {
         }
     }
 
-    fn pause(&mut self) -> io::Result<()> {
+    fn pause(&mut self) -> io::Result<()>
+        ensures pauses { OnOk result ((self.new.tally ≡ self.old.tally) × Appends (W.contents self.old.out) (W.contents self.new.out) []) }
+        // Also where the answers could not be handed on.
+        ensures kept { (self.new.tally ≡ self.old.tally) × Keeps (W.contents self.old.out) (W.contents self.new.out) }
+    {
         self.out.flush()
     }
 
@@ -78,35 +83,40 @@ impl<C: Checker, W: Write> LineTaker for Checked<C, W> {
     ) };
 }
 
-// All lines of the input, counted and answered, and the counts behind the answers.
+impl<C: Drop, W: Write + Drop> Checked<C, BufWriter<W>> {
+    // Writes the counts behind the answers, and hands over what its buffer still has.
+    fn finish(self) -> io::Result<(Tally, W)>
+        ensures same { IfOk result (λ done. done.0 ≡ self.tally) }
+        ensures written { IfOk result (λ done. Appends (writer_contents W.contents self.out) (W.contents done.1) (counts_said self.tally ++ codes "\n")) }
+    {
+        let Checked {
+            tally,
+            checker: _,
+            mut out,
+        } = self;
+        writeln!(out, "{tally}")?;
+        Ok((tally, out.into_inner()?))
+    }
+}
+
+// All lines of the input, counted and answered through a buffer, and the counts behind the answers.
 pub fn check_lines<C: Checker + Drop, R: Read, W: Write + Drop>(
     heap: Global,
     checker: C,
     input: &mut R,
     out: W,
-) -> anyhow::Result<Checked<C, W>>
-    ensures { IfOk result (λ checked. (lines : List (List ℕ)) × LinesOf (R.remaining input.old) lines
-        × (checked.tally ≡ tally_of C.good lines)
-        × Appends (W.contents out) (W.contents checked.out) (report C.good C.answer lines)) }
+) -> anyhow::Result<(Tally, W)>
+    ensures { IfOk result (λ done. (lines : List (List ℕ)) × LinesOf (R.remaining input.old) lines
+        × (done.0 ≡ tally_of C.good lines)
+        × Appends (W.contents out) (W.contents done.1) (report C.good C.answer lines)) }
 {
+    let tally = Tally::new();
+    let buffered = BufWriter::new(heap, out)?;
     let mut checked = Checked {
-        tally: Tally::new(),
+        tally,
         checker,
-        out,
+        out: buffered,
     };
     read_lines(heap, input, &mut checked)?;
-    checked.finish()?;
-    Ok(checked)
-}
-
-impl<C, W: Write> Checked<C, W> {
-    // Writes the counts behind the answers.
-    fn finish(&mut self) -> io::Result<()>
-        ensures same { self.new.tally ≡ self.old.tally }
-        ensures written { OnOk result (Appends (W.contents self.old.out) (W.contents self.new.out) (counts_said self.old.tally ++ codes "\n")) }
-    {
-        let tally = self.tally;
-        writeln!(self.out, "{tally}")?;
-        self.out.flush()
-    }
+    Ok(checked.finish()?)
 }

@@ -31,11 +31,11 @@ fn lines_are_answered_and_counted(rt: HostRuntime) -> Result<(), Fail> {
     let mut text = vec![in rt.alloc(); b'7'; 4097]?;
     text.extend_from_slice(b"\n1.2\n\nlast")?;
     let mut input = text.as_slice();
-    let checked = check_lines(rt.alloc(), Lengths, &mut input, Vec::new(rt.alloc()))?;
-    assert_eq!(rt; checked.tally.read, 4);
-    assert_eq!(rt; checked.tally.refused, 1);
+    let (tally, out) = check_lines(rt.alloc(), Lengths, &mut input, Vec::new(rt.alloc()))?;
+    assert_eq!(rt; tally.read, 4);
+    assert_eq!(rt; tally.refused, 1);
     let answers =
         b"no long 4096 the line has more bytes than that, and was not read\nok 3\nok 0\nok 4\n4 read, 1 refused\n";
-    assert!(rt; checked.out.as_slice() == answers.as_slice());
+    assert!(rt; out.as_slice() == answers.as_slice());
     Ok(())
 }

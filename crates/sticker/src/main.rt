@@ -8,12 +8,9 @@ mod laws;
 mod stickers_and_chips;
 mod trouble;
 
-use std::io::BufWriter;
 use stickers_and_chips::answer_lines;
 
 fn main(rt: HostRuntime) -> anyhow::Result<()> {
-    let mut input = rt.stdin();
-    let out = BufWriter::new(rt.alloc(), rt.stdout())?;
-    answer_lines(rt.alloc(), &mut input, out)?;
+    answer_lines(rt.alloc(), &mut rt.stdin(), rt.stdout())?;
     Ok(())
 }

@@ -1,13 +1,14 @@
 // Stickers and chips as lines to be checked.
-ghost use Rattle.std.specs.Prelude.{◌≡◌, ℕ, List, Some, is_ok, IfOk};
+ghost use Rattle.std.specs.Prelude.{◌≡◌, ℕ, List, IfOk};
 ghost use Rattle.std.specs.Io.KnownBytes.{Appends};
-ghost use Rattle.input.specs.Lines.{Took, LinesOf};
-ghost use Rattle.sticker.specs.Answers.{said, on_line, good_line, printed, answer_to, output_of};
+ghost use Rattle.input.specs.Counting.{tally_of};
+ghost use Rattle.input.specs.Lines.{LinesOf};
+ghost use Rattle.sticker.specs.Answers.{good_line, answer_to, output_of};
 
 use crate::found::Found;
 use crate::judging::judge;
 use crate::trouble::Trouble;
-use input::{Checked, Checker, Line, check_lines};
+use input::{Checker, Line, Tally, check_lines};
 use std::alloc::Global;
 use std::io::{Read, Write};
 
@@ -35,9 +36,10 @@ pub fn answer_lines<R: Read, W: Write + Drop>(
     heap: Global,
     input: &mut R,
     out: W,
-) -> anyhow::Result<Checked<StickersAndChips, W>>
-    ensures { IfOk result (λ checked. (lines : List (List ℕ)) × LinesOf (R.remaining input.old) lines
-        × Appends (W.contents out) (W.contents checked.out) (output_of lines)) }
+) -> anyhow::Result<(Tally, W)>
+    ensures { IfOk result (λ done. (lines : List (List ℕ)) × LinesOf (R.remaining input.old) lines
+        × (done.0 ≡ tally_of good_line lines)
+        × Appends (W.contents out) (W.contents done.1) (output_of lines)) }
 {
     check_lines(heap, StickersAndChips, input, out)
 }
