@@ -1,3 +1,4 @@
 pub mod Differences
 pub mod Comparing
 pub mod Output
+pub mod Laws

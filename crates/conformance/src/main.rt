@@ -5,6 +5,7 @@ mod case;
 mod comparison;
 mod difference;
 mod judging;
+mod laws;
 mod mark;
 mod running;
 mod taking;
