@@ -40,10 +40,10 @@ pub trait Checker {
 
 // The lines so far, counted; answers are written as the lines come.
 #[derive(Drop)]
-pub struct Checked<C, W> {
-    pub tally: Tally,
-    pub checker: C,
-    pub out: W,
+struct Checked<C, W> {
+    tally: Tally,
+    checker: C,
+    out: W,
 }
 
 impl<C: Checker, W: Write> LineTaker for Checked<C, W> {

@@ -14,7 +14,7 @@ pub mod tally;
 #[cfg(test)]
 mod tests;
 
-pub use checking::{Checked, Checker, check_lines};
+pub use checking::{Checker, check_lines};
 pub use content::{Unpaired, content_of};
 pub use feed::{LineTaker, read_lines};
 pub use fields::split_field;
