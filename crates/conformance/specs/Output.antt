@@ -5,6 +5,7 @@ use Rattle.input.specs.Counting.{most_counted}
 use Rattle.input.specs.Hex.{pairs_of}
 use Rattle.conformance.specs.Comparing.{agreeing, first_difference}
 use Rattle.conformance.specs.Differences.{from_equal}
+use Rattle.conformance.specs.declared.case.Case.{Case}
 use Rattle.conformance.specs.declared.comparison.Comparison.{Comparison}
 use Rattle.conformance.specs.declared.difference.Difference.{Difference}
 use Rattle.conformance.specs.declared.difference.Difference.TheVariants.{Form, TextRead, BytesWritten, BytesRead, TextWritten}
@@ -35,6 +36,9 @@ comparison_text comparison = lines_text comparison.agreed comparison.first
 pub record Example : Type 0 where
   pub text : List ℕ
   pub encoding : List ℕ
+
+abbrev pub example_of : Case → Example
+example_of case = record { text = case.text.now; encoding = case.encoding.now }
 
 -- X.690's example of an object identifier
 abbrev pub standards : Example

@@ -1,9 +1,9 @@
 // The examples and all lines compared, and what came of it written.
-ghost use Rattle.std.specs.Prelude.{◌≡◌, ℕ, List, ◌++◌, codes, IfOk, OnOk};
+ghost use Rattle.std.specs.Prelude.{◌≡◌, ℕ, List, ◌++◌, codes, IfOk};
 ghost use Rattle.std.specs.Io.Buffered.{writer_contents};
 ghost use Rattle.std.specs.Io.KnownBytes.{Appends};
 ghost use Rattle.input.specs.Lines.{LinesOf};
-ghost use Rattle.conformance.specs.Output.{comparison_text, example_line, first_of_all, from_example, output_of};
+ghost use Rattle.conformance.specs.Output.{comparison_text, example_line, example_of, first_of_all, from_example, output_of};
 
 use crate::case::Case;
 use crate::comparison::Comparison;
@@ -49,8 +49,8 @@ pub fn compare_all<R: Read, W: Write + Drop>(
 
 // Compares an example, writes what came of it, and answers how we differ.
 fn compare_example<W: Write>(example: &Case, out: &mut W) -> io::Result<Option<Difference>>
-    ensures { IfOk result (λ difference. (difference ≡ from_example (record { text = example.now.text.now; encoding = example.now.encoding.now }))
-        × Appends (W.contents out.old) (W.contents out.new) (example_line (record { text = example.now.text.now; encoding = example.now.encoding.now }))) }
+    ensures { IfOk result (λ difference. (difference ≡ from_example (example_of example.now))
+        × Appends (W.contents out.old) (W.contents out.new) (example_line (example_of example.now))) }
 {
     let encoding = Pairs {
         bytes: example.encoding,
