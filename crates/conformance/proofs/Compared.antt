@@ -1,5 +1,5 @@
 -- A comparison, one line more.
-use Rattle.std.proofs.Common.{◌≡◌, ℕ, ◌+◌, ◌-◌, ◌^◌, min, List, [], ◌∷◌, ◌++◌, Some, None, Option, sym, refl, ap, ◌∙◌, arith}
+use Rattle.std.proofs.Common.{◌≡◌, ℕ, ◌+◌, min, List, [], ◌∷◌, ◌++◌, Some, None, Option, sym, refl, ap, ◌∙◌, arith}
 use Rattle.std.specs.Option.{option_or}
 use Rattle.input.specs.Counting.{most_counted}
 use Rattle.conformance.specs.Comparing.{agreeing_by, agreeing, first_difference, Compared}
@@ -51,16 +51,13 @@ agreeing_push (one ∷ lines) line = go (from_line one) (agreeing_push lines lin
     go (Some difference) e = refl
 
 module _ (before after : Comparison) (lines : List (List ℕ)) (line : List ℕ) (known : Compared before lines) where
-  abbrev cap : ℕ
-  cap = 2 ^ 64 - 1
-
   -- once one differs nothing changes
   pub compared_kept : (first : Difference) → before.first ≡ Some first → after.first ≡ before.first
       → after.agreed ≡ before.agreed → Compared after (lines ++ line ∷ [])
   compared_kept first e same_first same_agreed =
       let found = sym known.first ∙ e in
       record {
-        agreed = same_agreed ∙ known.agreed ∙ sym (ap (λ n. min n cap) (agreeing_push lines line ∙ ap (λ o. pushed o (from_line line) (agreeing lines)) found));
+        agreed = same_agreed ∙ known.agreed ∙ sym (ap (λ n. min n most_counted) (agreeing_push lines line ∙ ap (λ o. pushed o (from_line line) (agreeing lines)) found));
         first = same_first ∙ e ∙ sym (first_push lines line ∙ ap (λ o. option_or o (from_line line)) found);
       }
 
@@ -71,11 +68,11 @@ module _ (before after : Comparison) (lines : List (List ℕ)) (line : List ℕ)
     pub compared_differs : (difference : Difference) → Some difference ≡ from_line line → after.first ≡ Some difference
         → after.agreed ≡ before.agreed → Compared after (lines ++ line ∷ [])
     compared_differs difference e now same_agreed = record {
-      agreed = same_agreed ∙ known.agreed ∙ sym (ap (λ n. min n cap) (agreeing_push lines line ∙ (λ k. pushed (so_far k) (sym e k) (agreeing lines))));
+      agreed = same_agreed ∙ known.agreed ∙ sym (ap (λ n. min n most_counted) (agreeing_push lines line ∙ (λ k. pushed (so_far k) (sym e k) (agreeing lines))));
       first = now ∙ sym (first_push lines line ∙ (λ k. option_or (so_far k) (sym e k)));
     }
 
-    pub compared_agrees : None ≡ from_line line → after.first ≡ None → after.agreed ≡ min (before.agreed + 1) cap
+    pub compared_agrees : None ≡ from_line line → after.first ≡ None → after.agreed ≡ min (before.agreed + 1) most_counted
         → Compared after (lines ++ line ∷ [])
     compared_agrees e still more =
         let counted = agreeing_push lines line ∙ (λ k. pushed (so_far k) (sym e k) (agreeing lines)) in

@@ -1,4 +1,4 @@
--- What the standard's published examples come to.
+-- What the examples come to.
 use Rattle.std.specs.Prelude.{◌≡◌, None}
 use Rattle.conformance.specs.Output.{standards, newer, from_example}
 

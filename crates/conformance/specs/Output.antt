@@ -1,4 +1,4 @@
--- What is written of a comparison, and whether all agrees.
+-- What is written of the examples and of a comparison, and the first difference of all.
 use Rattle.std.specs.Prelude.{ℕ, ◌+◌, min, List, [], ◌∷◌, ◌++◌, Some, None, codes, decimal, Option}
 use Rattle.std.specs.Option.{option_or}
 use Rattle.input.specs.Counting.{most_counted}

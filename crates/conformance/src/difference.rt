@@ -1,4 +1,4 @@
-// How we may differ from a line.
+// How we may differ from an example or a line.
 ghost use Rattle.std.specs.Prelude.{Some};
 ghost use Rattle.conformance.specs.Output.{words_of};
 

@@ -1,4 +1,4 @@
-// Compares our readers and writers with the standard's examples and with another implementation's encodings.
+// Compares our readers and writers with examples and with another implementation's encodings.
 #![tactic(auto)]
 
 mod case;

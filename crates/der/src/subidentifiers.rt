@@ -11,7 +11,7 @@ use crate::header::HEADER_LENGTH;
 
 pub(crate) mod arcs;
 
-// The first byte of a subidentifier that has a needless digit in front.
+// The first byte of a subidentifier that has a needless digit in front: the digit 0, with 80 added.
 const PADDING: u8 = 0x80;
 
 // The bytes of one subidentifier, and where they begin.

@@ -1,5 +1,5 @@
 // A line of input, in memory that does not grow with it.
-ghost use Rattle.std.specs.Prelude.{◌≡◌, ℕ, ◌<◌, ◌≤◌, List, [], ◌∷◌, ◌++◌, length, take, IfOk, IfSome, MatchOption, ◌==◌, nat_le};
+ghost use Rattle.std.specs.Prelude.{◌≡◌, ℕ, ◌<◌, ◌≤◌, List, [], ◌∷◌, ◌++◌, length, IfOk, IfSome, MatchOption, ◌==◌, nat_le};
 ghost use Rattle.input.specs.Limits.{line_limit};
 ghost use Rattle.input.specs.Lines.{Took};
 
