@@ -11,18 +11,18 @@ use Rattle.conformance.specs.declared.difference.Difference.{Difference}
 use Rattle.conformance.specs.declared.difference.Difference.TheVariants.{Form, TextRead, BytesWritten, BytesRead, TextWritten}
 
 -- a difference in words
-abbrev pub words_of : Difference → List ℕ
-words_of Form = codes "it is not a mark, a text and pairs of hexadecimal digits"
-words_of TextRead = codes "the text is read otherwise"
-words_of BytesWritten = codes "other bytes are written"
-words_of BytesRead = codes "the bytes are read otherwise"
-words_of TextWritten = codes "another text is written"
+abbrev pub difference_text : Difference → List ℕ
+difference_text Form = codes "it is not a mark, a text and pairs of hexadecimal digits"
+difference_text TextRead = codes "the text is read otherwise"
+difference_text BytesWritten = codes "other bytes are written"
+difference_text BytesRead = codes "the bytes are read otherwise"
+difference_text TextWritten = codes "another text is written"
 
 -- the line behind those that agree, if there is one that differs, and how it does
 abbrev pub first_text : ℕ → Option Difference → List ℕ
 first_text count None = codes ""
 first_text count (Some difference) =
-    codes "\nline " ++ (decimal (min (count + 1) most_counted) ++ (codes " differs: " ++ words_of difference))
+    codes "\nline " ++ (decimal (min (count + 1) most_counted) ++ (codes " differs: " ++ difference_text difference))
 
 -- how many lines agree, and the first that differs
 abbrev pub lines_text : ℕ → Option Difference → List ℕ
@@ -37,6 +37,7 @@ pub record Example : Type 0 where
   pub text : List ℕ
   pub encoding : List ℕ
 
+-- a case of the code, as an example
 abbrev pub example_of : Case → Example
 example_of case = record { text = case.text.now; encoding = case.encoding.now }
 
@@ -52,11 +53,12 @@ newer = record { text = codes "2.999.3"; encoding = 0x06 ∷ (0x03 ∷ (0x88 ∷
 abbrev pub from_example : Example → Option Difference
 from_example example = from_equal example.text example.encoding
 
+-- whether it agrees
 abbrev pub verdict_text : Option Difference → List ℕ
 verdict_text None = codes "agreed"
-verdict_text (Some difference) = words_of difference
+verdict_text (Some difference) = difference_text difference
 
--- an example, and whether it agrees
+-- an example, and what came of it
 abbrev pub example_line : Example → List ℕ
 example_line example =
     example.text ++ (codes " is " ++ (pairs_of (codes " ") example.encoding ++ (codes ": " ++ (verdict_text (from_example example) ++ codes "\n"))))

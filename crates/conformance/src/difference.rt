@@ -1,6 +1,6 @@
 // How we may differ from an example or a line.
 ghost use Rattle.std.specs.Prelude.{Some};
-ghost use Rattle.conformance.specs.Output.{words_of};
+ghost use Rattle.conformance.specs.Output.{difference_text};
 
 use std::error::Error;
 use std::fmt;
@@ -20,7 +20,7 @@ pub enum Difference {
 }
 
 impl fmt::Display for Difference {
-    ghost output = { λ difference. Some (words_of difference) };
+    ghost output = { λ difference. Some (difference_text difference) };
 
     fn fmt<W: fmt::Write>(&self, f: &mut fmt::Formatter<W>) -> fmt::Result {
         f.write_str(match self {

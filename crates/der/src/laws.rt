@@ -6,8 +6,7 @@ pub fn one_encoding_for_each()
     ensures { OneEncoding }
 {}
 
-// The bytes of a number in base 128 stand for it, and no other bytes that do, one at least, are
-// fewer.
+// The bytes of a number in base 128 stand for it, and no other bytes that do, one at least, are fewer.
 pub fn fewest_bytes()
     ensures { FewestBytes }
 {}

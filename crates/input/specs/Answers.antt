@@ -5,7 +5,8 @@ use Rattle.std.specs.List.{flat_map}
 use Rattle.input.specs.Limits.{line_feed}
 use Rattle.input.specs.Counting.{tally_of, counts_said}
 
--- an answer in words: `ok` and what was found, or `no` and the trouble, as they are printed
+-- an answer in words: `ok` and what was found, or `no` and the trouble, as they are printed; none where what is
+-- printed is not stated
 abbrev pub in_words : {Found Trouble : Type 0} → (Found → Option (List ℕ)) → (Trouble → Option (List ℕ)) → Result Found Trouble → Option (List ℕ)
 in_words found_text trouble_text (Ok found) = prepend_known (codes "ok ") (found_text found)
 in_words found_text trouble_text (Err trouble) = prepend_known (codes "no ") (trouble_text trouble)

@@ -1,6 +1,6 @@
 // Lines checked, counted and answered, one after the other.
 ghost use Rattle.std.specs.Prelude.{◌≡◌, ℕ, Bool, List, [], ◌∷◌, ◌++◌, Some, is_ok, IfOk, OnOk, codes, refl};
-ghost use Rattle.std.specs.Io.Buffered.{writer_contents};
+ghost use Rattle.std.specs.Io.Buffered.{writer_buffer, writer_contents};
 ghost use Rattle.std.specs.Io.KnownBytes.{Appends, Keeps};
 ghost use Rattle.std.proofs.Common.{sym, ap, ◌∙◌, subst};
 ghost use Rattle.std.proofs.KnownBytes.{Appends-nil, Appends-trans};
@@ -8,6 +8,7 @@ ghost use Rattle.std.proofs.lemmas.Grind.{flat_map-append};
 ghost use Rattle.std.proofs.lemmas.List.Sums.{fold-append};
 ghost use Rattle.input.specs.Answers.{in_words, answers, report};
 ghost use Rattle.input.specs.Counting.{counted, all_counted, tally_of, counts_said};
+ghost use Rattle.input.specs.Limits.{line_feed};
 ghost use Rattle.input.specs.Lines.{Took, LinesOf};
 
 use crate::feed::{LineTaker, read_lines};
@@ -33,27 +34,27 @@ pub trait Checker {
 
     // What a line that has ended holds, or the trouble with it.
     fn check(&self, line: &Line) -> Result<Self::Found, Self::Trouble>
-        ensures is_read { (bytes : List ℕ) → Took line.now bytes → is_ok result ≡ good bytes }
+        ensures is_good { (bytes : List ℕ) → Took line.now bytes → is_ok result ≡ good bytes }
         ensures says { (bytes : List ℕ) → Took line.now bytes
             → in_words Self.Found.output Self.Trouble.output result ≡ Some (answer bytes) };
 }
 
 // The lines so far, counted; answers are written as the lines come.
 #[derive(Drop)]
-struct Checked<C, W> {
+struct Checked<C, W: Write + Drop> {
     tally: Tally,
     checker: C,
-    out: W,
+    out: BufWriter<W>,
 }
 
-impl<C: Checker, W: Write> LineTaker for Checked<C, W> {
+impl<C: Checker, W: Write + Drop> LineTaker for Checked<C, W> {
     ghost taken = { λ before lines after. (after.tally ≡ all_counted C.good lines before.tally)
-        × Appends (W.contents before.out) (W.contents after.out) (answers C.answer lines) };
+        × Appends (writer_contents W.contents before.out) (writer_contents W.contents after.out) (answers C.answer lines) };
 
     fn take_line(&mut self, line: &Line) -> io::Result<()>
         ensures taken { OnOk result ((bytes : List ℕ) → Took line.now bytes
             → (self.new.tally ≡ all_counted C.good (bytes ∷ []) self.old.tally)
-            × Appends (W.contents self.old.out) (W.contents self.new.out) (answers C.answer (bytes ∷ []))) }
+            × Appends (writer_contents W.contents self.old.out) (writer_contents W.contents self.new.out) (answers C.answer (bytes ∷ []))) }
         // Also where the answer could not be written.
         ensures counts { (bytes : List ℕ) → Took line.now bytes → self.new.tally ≡ counted (C.good bytes) self.old.tally }
     {
@@ -66,24 +67,29 @@ impl<C: Checker, W: Write> LineTaker for Checked<C, W> {
     }
 
     fn pause(&mut self) -> io::Result<()>
-        ensures pauses { OnOk result ((self.new.tally ≡ self.old.tally) × Appends (W.contents self.old.out) (W.contents self.new.out) []) }
+        ensures pauses { OnOk result ((self.new.tally ≡ self.old.tally)
+            × Appends (writer_contents W.contents self.old.out) (writer_contents W.contents self.new.out) []) }
+        ensures handed_on { OnOk result (writer_buffer self.new.out ≡ []) }
         // Also where the answers could not be handed on.
-        ensures kept { (self.new.tally ≡ self.old.tally) × Keeps (W.contents self.old.out) (W.contents self.new.out) }
+        ensures kept { (self.new.tally ≡ self.old.tally)
+            × Keeps (writer_contents W.contents self.old.out) (writer_contents W.contents self.new.out) }
     {
         self.out.flush()
     }
 
-    ghost none = { λ checked. (refl, Appends-nil (W.contents checked.out)) };
+    ghost none = { λ checked. (refl, Appends-nil (writer_contents W.contents checked.out)) };
 
     ghost further = { λ first second third lines more one two. (
       two.0 ∙ ap (all_counted C.good more) one.0
           ∙ sym (fold-append (λ tally line. counted (C.good line) tally) first.tally lines more),
-      subst (Appends (W.contents first.out) (W.contents third.out)) (sym (flat_map-append (λ line. C.answer line ++ 10 ∷ []) lines more))
-          (Appends-trans (W.contents first.out) (W.contents second.out) (W.contents third.out) (answers C.answer lines) (answers C.answer more) one.1 two.1),
+      subst (Appends (writer_contents W.contents first.out) (writer_contents W.contents third.out))
+          (sym (flat_map-append (λ line. C.answer line ++ line_feed ∷ []) lines more))
+          (Appends-trans (writer_contents W.contents first.out) (writer_contents W.contents second.out) (writer_contents W.contents third.out)
+          (answers C.answer lines) (answers C.answer more) one.1 two.1),
     ) };
 }
 
-impl<C: Drop, W: Write + Drop> Checked<C, BufWriter<W>> {
+impl<C: Drop, W: Write + Drop> Checked<C, W> {
     // Writes the counts behind the answers, and hands over what its buffer still has.
     fn finish(self) -> io::Result<(Tally, W)>
         ensures same { IfOk result (λ done. done.0 ≡ self.tally) }

@@ -36,7 +36,7 @@ abbrev pub answered : Result (List ℕ) Fault → Result (Unit {0}) Fault
 answered (Ok arcs) = Ok tt
 answered (Err fault) = Err fault
 
--- The same of a reader that tells how many bytes it took, which are so many where it reads some arcs.
+-- The same of a reader that tells how many bytes it took: so many, where arcs are read.
 abbrev pub told : ℕ → Result (List ℕ) Fault → Result ℕ Fault
 told count (Ok arcs) = Ok count
 told count (Err fault) = Err fault
