@@ -1,16 +1,14 @@
 // The examples and all lines compared, and what came of it written.
-ghost use Rattle.std.specs.Prelude.{◌≡◌, ℕ, List, ◌++◌, codes, IfOk};
-ghost use Rattle.std.specs.Io.Buffered.{writer_contents};
+ghost use Rattle.std.specs.Prelude.{◌≡◌, ℕ, List, IfOk};
 ghost use Rattle.std.specs.Io.KnownBytes.{Appends};
 ghost use Rattle.input.specs.Lines.{LinesOf};
-ghost use Rattle.conformance.specs.Output.{comparison_text, example_line, example_of, first_of_all, from_example, output_of};
+ghost use Rattle.conformance.specs.Output.{example_line, example_of, first_of_all, from_example, output_of};
 
 use crate::case::Case;
-use crate::comparison::Comparison;
 use crate::difference::Difference;
 use crate::mark::Mark;
 use crate::taking::compare_lines;
-use input::Pairs;
+use input::{Pairs, close};
 use std::alloc::Global;
 use std::io;
 use std::io::{BufWriter, Read, Write};
@@ -43,7 +41,7 @@ pub fn compare_all<R: Read, W: Write + Drop>(
     let newer = compare_example(&NEWER, &mut buffered)?;
     let comparison = compare_lines(heap, input)?;
     let first = standards.or(newer).or(comparison.first);
-    let out = finish(&comparison, buffered)?;
+    let out = close(&comparison, buffered)?;
     Ok((first, out))
 }
 
@@ -68,12 +66,4 @@ fn compare_example<W: Write>(example: &Case, out: &mut W) -> io::Result<Option<D
             Ok(Some(difference))
         }
     }
-}
-
-// Writes what came of the lines, and hands over what the buffer still has.
-fn finish<W: Write + Drop>(comparison: &Comparison, mut buffered: BufWriter<W>) -> io::Result<W>
-    ensures { IfOk result (λ out. Appends (writer_contents W.contents buffered) (W.contents out) (comparison_text comparison.now ++ codes "\n")) }
-{
-    writeln!(buffered, "{comparison}")?;
-    Ok(buffered.into_inner()?)
 }

@@ -7,10 +7,11 @@ ghost use Rattle.std.proofs.KnownBytes.{Appends-nil, Appends-trans};
 ghost use Rattle.std.proofs.lemmas.Grind.{flat_map-append};
 ghost use Rattle.std.proofs.lemmas.List.Sums.{fold-append};
 ghost use Rattle.input.specs.Answers.{in_words, answers, report};
-ghost use Rattle.input.specs.Counting.{counted, all_counted, tally_of, counts_said};
+ghost use Rattle.input.specs.Counting.{counted, all_counted, tally_of};
 ghost use Rattle.input.specs.Limits.{line_feed};
 ghost use Rattle.input.specs.Lines.{Took, LinesOf};
 
+use crate::closing::close;
 use crate::feed::{LineTaker, read_lines};
 use crate::line::Line;
 use crate::tally::Tally;
@@ -89,22 +90,6 @@ impl<C: Checker, W: Write + Drop> LineTaker for Checked<C, W> {
     ) };
 }
 
-impl<C: Drop, W: Write + Drop> Checked<C, W> {
-    // Writes the counts behind the answers, and hands over what its buffer still has.
-    fn finish(self) -> io::Result<(Tally, W)>
-        ensures same { IfOk result (λ done. done.0 ≡ self.tally) }
-        ensures written { IfOk result (λ done. Appends (writer_contents W.contents self.out) (W.contents done.1) (counts_said self.tally ++ codes "\n")) }
-    {
-        let Checked {
-            tally,
-            checker: _,
-            mut out,
-        } = self;
-        writeln!(out, "{tally}")?;
-        Ok((tally, out.into_inner()?))
-    }
-}
-
 // All lines of the input, counted and answered through a buffer, and the counts behind the answers.
 pub fn check_lines<C: Checker + Drop, R: Read, W: Write + Drop>(
     heap: Global,
@@ -124,5 +109,11 @@ pub fn check_lines<C: Checker + Drop, R: Read, W: Write + Drop>(
         out: buffered,
     };
     read_lines(heap, input, &mut checked)?;
-    Ok(checked.finish()?)
+    let Checked {
+        tally,
+        checker: _,
+        out,
+    } = checked;
+    let out = close(&tally, out)?;
+    Ok((tally, out))
 }

@@ -3,6 +3,7 @@
 #![tactic(auto)]
 
 pub mod checking;
+pub mod closing;
 pub mod content;
 pub mod feed;
 pub mod fields;
@@ -15,6 +16,7 @@ pub mod tally;
 mod tests;
 
 pub use checking::{Checker, check_lines};
+pub use closing::close;
 pub use content::{Unpaired, content_of};
 pub use feed::{LineTaker, read_lines};
 pub use fields::split_field;
