@@ -11,7 +11,7 @@ pub mod refusal;
 mod tests;
 mod words;
 
-pub use arc::Arc;
+pub use arc::{ARC_LIMIT, Arc, arc_of, next_arc};
 pub use collector::Collector;
 pub use identifier::Identifier;
 pub use numeral::Numeral;

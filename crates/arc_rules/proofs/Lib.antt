@@ -1,0 +1,4 @@
+pub mod Ranges
+pub mod Searching
+pub mod Listing
+pub mod Theorems

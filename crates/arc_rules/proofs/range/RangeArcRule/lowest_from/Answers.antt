@@ -1,0 +1,7 @@
+use Rattle.arc_rules.proofs.Ranges.{lowest_in_range}
+use Rattle.arc_rules.proofs.range.RangeArcRule.lowest_from.Goals as goal
+
+pub returns-then-lowest-self : goal.returns-then-lowest-self
+returns-then-lowest-self c = record {
+  answers = lowest_in_range c.args.self.now.first _ _ _ c.max-lowest.ensures c.if-lowest-self.true c.max-lowest.type_inv;
+}

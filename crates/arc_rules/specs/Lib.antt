@@ -1,0 +1,6 @@
+pub mod Sets
+pub mod Lowest
+pub mod Rules
+pub mod Listed
+pub mod Refusals
+pub mod Laws
