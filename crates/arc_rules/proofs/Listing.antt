@@ -2,7 +2,7 @@
 use Rattle.std.proofs.Common.{◌≡◌, ◌<◌, ◌+◌, ◌||◌, ℕ, zero, suc, Bool, true, false, cond, List, [], ◌∷◌, Some, None, Option, length, nat_eq, nat_lt, nat_le, Fits, w32, slice_index_or, refl, sym, subst, arith}
 use Rattle.std.proofs.lemmas.Bool.{and_from, and_parts, and_left, and_right, or_from, or_left, or_right, ne_eqb, eq-eqb, leb-true, leb-false, ltb-true}
 use Rattle.std.specs.List.{find, IsAllAdjacentAnswer}
-use Rattle.oid.proofs.Arcs.{arc_fits}
+use Rattle.oid.proofs.Arcs.{limit_width}
 use Rattle.arc_rules.specs.Sets.{among}
 use Rattle.arc_rules.specs.Lowest.{IsLowest}
 use Rattle.arc_rules.specs.Listed.{ascending}
@@ -75,7 +75,7 @@ first_is_lowest (arc ∷ arcs) asked rising fits = go (nat_le asked arc) refl (f
         → IsLowest (among (arc ∷ arcs)) asked (cond v (Some arc) (find (nat_le asked) arcs))
     go true above rest = (
       leb-true asked arc above,
-      arc_fits arc (fits 0).fits,
+      limit_width arc (fits 0).fits,
       or_left (nat_eq arc arc) (among arcs arc) (eq-eqb arc arc refl),
       λ between from to. below_first arc between arcs rising to,
     )

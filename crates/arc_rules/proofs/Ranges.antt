@@ -1,7 +1,7 @@
 -- The lowest arc of a range.
 use Rattle.std.proofs.Common.{◌≡◌, ℕ, ◌^◌, ◌<◌, ◌≤◌, max, Some, nat_le, arith}
 use Rattle.std.proofs.lemmas.Bool.{le-leb, lt-leb, and_from, and_left}
-use Rattle.oid.proofs.Arcs.{arc_fits}
+use Rattle.oid.proofs.Arcs.{limit_width}
 use Rattle.arc_rules.specs.Sets.{from_to}
 use Rattle.arc_rules.specs.Lowest.{IsLowest}
 
@@ -10,7 +10,7 @@ pub lowest_in_range : (first last asked lowest : ℕ) → lowest ≡ max asked f
     → IsLowest (from_to first last) asked (Some lowest)
 lowest_in_range first last asked lowest is in_range fits = (
   omega (arith, is),
-  arc_fits lowest fits,
+  limit_width lowest fits,
   and_from (nat_le first lowest) _ (le-leb first lowest (omega (arith, is))) (le-leb lowest last in_range),
   λ between from to. and_left (nat_le first between) _ (lt-leb first between (omega (arith, is, from, to))),
 )

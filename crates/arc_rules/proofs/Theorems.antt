@@ -3,7 +3,7 @@ use Rattle.std.proofs.Common.{◌≡◌, ℕ, ◌^◌, ◌<◌, ◌≤◌, Bool,
 use Rattle.std.specs.Option.{option_eq}
 use Rattle.std.proofs.lemmas.Bool.{eqb-true, eqb-false, ltb-true, ltb-false, both_ways}
 use Rattle.oid.specs.Arcs.{arc_limit}
-use Rattle.oid.proofs.Arcs.{arc_fits}
+use Rattle.oid.proofs.Arcs.{limit_width}
 use Rattle.arc_rules.specs.Sets.{ArcSet}
 use Rattle.arc_rules.specs.Lowest.{IsLowest, lowest_from}
 use Rattle.arc_rules.specs.Laws.{OneAnswer, AnswersLowest, AnswersTellSet}
@@ -39,7 +39,7 @@ lowest_is_itself set arc None within h = sym (h arc (omega arith) within)
 
 pub has_arc : (set : ArcSet) (arc : ℕ) (answer : Option ℕ) → arc < 2 ^ 32 → IsLowest set arc answer
     → option_eq nat_eq answer (Some arc) ≡ set arc
-has_arc set arc answer fits = lowest_is_itself set arc answer (arc_fits arc fits)
+has_arc set arc answer fits = lowest_is_itself set arc answer (limit_width arc fits)
 
 -- the lowest arc of a set is that of every set with the same arcs
 same_lowest : (one other : ArcSet) → ((arc : ℕ) → arc ≤ arc_limit → one arc ≡ other arc)

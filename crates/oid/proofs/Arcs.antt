@@ -20,6 +20,11 @@ pub limit_least : last_second ≤ arc_limit
 unfolding arc_limit
 limit_least = omega arith
 
+-- every number of the code's type for arcs is one
+pub limit_width : (n : ℕ) → n < 2 ^ 32 → n ≤ arc_limit
+unfolding arc_limit
+limit_width n fits = omega (arith, fits)
+
 pub arc_of_some : (n : ℕ) → n ≤ arc_limit → arc_of n ≡ Some n
 arc_of_some n h = cond-true (is_arc n) _ _ (le-leb n arc_limit h)
 
@@ -29,8 +34,3 @@ arc_of_none n h = cond-false (is_arc n) _ _ (lt-leb n arc_limit h)
 -- an arc that is found is one
 pub is_arc_is : (n : ℕ) → is_some (arc_of n) ≡ is_arc n
 is_arc_is n = elim (is_arc n) as (λ v. is_some (cond v (Some n) None) ≡ v) [ true ↦ refl | false ↦ refl ]
-
--- every number of the code's type for arcs is one
-pub arc_fits : (n : ℕ) → n < 2 ^ 32 → n ≤ arc_limit
-unfolding arc_limit
-arc_fits n fits = omega (arith, fits)
