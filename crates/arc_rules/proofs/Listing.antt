@@ -1,8 +1,8 @@
 -- Ascending lists of arcs, and the first arc in one that is not below an arc.
-use Rattle.std.proofs.Common.{◌≡◌, ◌<◌, ◌+◌, ◌||◌, ℕ, zero, suc, Bool, true, false, cond, List, [], ◌∷◌, Some, None, Option, length, nat_eq, nat_lt, nat_le, Fits, w32, slice_index_or, refl, sym, subst, arith}
+use Rattle.std.proofs.Common.{◌≡◌, ◌≤◌, ◌<◌, ◌+◌, ◌||◌, ℕ, zero, suc, Bool, true, false, cond, List, [], ◌∷◌, Some, None, Option, length, nat_eq, nat_lt, nat_le, slice_index_or, refl, sym, subst, arith}
 use Rattle.std.proofs.lemmas.Bool.{and_from, and_parts, and_left, and_right, or_from, or_left, or_right, ne_eqb, eq-eqb, leb-true, leb-false, ltb-true}
 use Rattle.std.specs.List.{find, IsAllAdjacentAnswer}
-use Rattle.oid.proofs.Arcs.{limit_width}
+use Rattle.oid.specs.Arcs.{arc_limit}
 use Rattle.arc_rules.specs.Sets.{among}
 use Rattle.arc_rules.specs.Lowest.{IsLowest}
 use Rattle.arc_rules.specs.Listed.{ascending}
@@ -31,7 +31,7 @@ falls (arc ∷ second ∷ arcs) zero (suc (suc next)) h out = absurd (omega (ari
 falls (arc ∷ second ∷ arcs) (suc place) (suc next) h out =
     and_right (nat_lt arc second) _ (falls (second ∷ arcs) place next (omega (arith, h.0), omega (arith, h.1)) out)
 
--- what is found of each arc and the next is what makes a list ascending
+-- the library's answer about all neighbours of a list is whether it ascends
 pub adjacent : (arcs : List ℕ) (answer : Bool) → IsAllAdjacentAnswer (λ arc next answer. answer ≡ nat_lt arc next) arcs answer
     → answer ≡ ascending arcs
 adjacent arcs true all = sym (rises arcs each)
@@ -53,10 +53,10 @@ below_first arc lower (next ∷ arcs) rising h =
     or_from (nat_eq lower arc) _ (ne_eqb lower arc (λ same. omega (arith, h, same))) (below_first next lower arcs parts.1 (omega (arith, h, higher)))
 
 -- the first arc that is not below another is the lowest such
-pub first_is_lowest : (arcs : List ℕ) (asked : ℕ) → ascending arcs ≡ true → ((i : ℕ) → Fits w32 (slice_index_or arcs i 0))
+pub first_is_lowest : (arcs : List ℕ) (asked : ℕ) → ascending arcs ≡ true → ((i : ℕ) → slice_index_or arcs i 0 ≤ arc_limit)
     → IsLowest (among arcs) asked (find (nat_le asked) arcs)
-first_is_lowest [] asked rising fits = λ arc above within. refl
-first_is_lowest (arc ∷ arcs) asked rising fits = go (nat_le asked arc) refl (first_is_lowest arcs asked (tail arc arcs rising) (λ i. fits (suc i)))
+first_is_lowest [] asked rising within = λ arc above within. refl
+first_is_lowest (arc ∷ arcs) asked rising within = go (nat_le asked arc) refl (first_is_lowest arcs asked (tail arc arcs rising) (λ i. within (suc i)))
   where
     tail : (arc : ℕ) (arcs : List ℕ) → ascending (arc ∷ arcs) ≡ true → ascending arcs ≡ true
     tail arc [] rising = refl
@@ -75,7 +75,7 @@ first_is_lowest (arc ∷ arcs) asked rising fits = go (nat_le asked arc) refl (f
         → IsLowest (among (arc ∷ arcs)) asked (cond v (Some arc) (find (nat_le asked) arcs))
     go true above rest = (
       leb-true asked arc above,
-      limit_width arc (fits 0).fits,
+      within 0,
       or_left (nat_eq arc arc) (among arcs arc) (eq-eqb arc arc refl),
       λ between from to. below_first arc between arcs rising to,
     )

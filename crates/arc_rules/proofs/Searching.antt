@@ -1,4 +1,4 @@
--- The search through the arcs from one on.
+-- The search through an arc and all above it.
 use Rattle.std.proofs.Common.{◌≡◌, ℕ, zero, suc, ◌+◌, ◌-◌, ◌<◌, ◌≤◌, Bool, true, false, cond, Some, None, Option, nat_lt, refl, subst, arith}
 use Rattle.std.proofs.lemmas.Bool.{ltb-true, ltb-false}
 use Rattle.std.specs.List.{find, range_with_len}
@@ -6,13 +6,13 @@ use Rattle.oid.specs.Arcs.{arc_limit}
 use Rattle.arc_rules.specs.Sets.{ArcSet}
 use Rattle.arc_rules.specs.Lowest.{lowest_from, IsLowest}
 
--- what is found among so many numbers from one on: one of them that is in the set, and none below it is; or none is
+-- what is found among so many numbers that begin with a given one: one of them that is in the set, and none below it is; or none is
 abbrev pub Finds : ArcSet → ℕ → ℕ → Option ℕ → Type 0
 Finds set from count (Some arc) = (from ≤ arc) × (arc < from + count) × (set arc ≡ true)
     × ((between : ℕ) → from ≤ between → between < arc → set between ≡ false)
 Finds set from count None = (arc : ℕ) → from ≤ arc → arc < from + count → set arc ≡ false
 
--- what is out of a set from the next number on, is from a number on that is out too
+-- if a number is out of a set, and an arc is out wherever it is above that number, then an arc that is not below it is out
 one_more : (set : ArcSet) (from arc : ℕ) → set from ≡ false → from ≤ arc → (from + 1 ≤ arc → set arc ≡ false) → set arc ≡ false
 one_more set from arc out above later = go (nat_lt from arc) refl
   where
@@ -43,7 +43,7 @@ finds set from (suc count) = go (set from) refl (finds set (from + 1) count)
     go true is rest = (omega arith, omega arith, is, λ between above below. absurd (omega (arith, above, below)))
     go false is rest = finds_later set from count is later rest
 
--- the first of all arcs from one on is the lowest
+-- the first of an arc and all above it is the lowest
 first_is_lowest : (set : ArcSet) (from : ℕ) (found : Option ℕ) → Finds set from (arc_limit + 1 - from) found → IsLowest set from found
 first_is_lowest set from (Some arc) h = (h.0, omega (arith, h.0, h.1), h.2, h.3)
 first_is_lowest set from None h = λ arc above within. h arc above (omega (arith, above, within))

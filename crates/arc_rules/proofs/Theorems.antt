@@ -1,22 +1,21 @@
--- What follows of all arc rules from how they answer.
-use Rattle.std.proofs.Common.{◌≡◌, ℕ, ◌^◌, ◌<◌, ◌≤◌, Bool, true, false, Some, None, Option, nat_lt, nat_eq, refl, sym, ap, ◌∙◌, subst, arith}
+-- There is one lowest arc; and what follows from that.
+use Rattle.std.proofs.Common.{◌≡◌, ℕ, ◌<◌, ◌≤◌, Bool, true, false, Some, None, Option, nat_lt, nat_eq, refl, sym, ap, ◌∙◌, subst, arith}
 use Rattle.std.specs.Option.{option_eq}
 use Rattle.std.proofs.lemmas.Bool.{eqb-true, eqb-false, ltb-true, ltb-false, both_ways}
 use Rattle.oid.specs.Arcs.{arc_limit}
-use Rattle.oid.proofs.Arcs.{limit_width}
 use Rattle.arc_rules.specs.Sets.{ArcSet}
 use Rattle.arc_rules.specs.Lowest.{IsLowest, lowest_from}
-use Rattle.arc_rules.specs.Laws.{OneAnswer, AnswersLowest, AnswersTellSet}
+use Rattle.arc_rules.specs.Laws.{SameArcs, OneAnswer, OnlyLowest, AnswersTellSet}
 use Rattle.arc_rules.proofs.Searching.{search_is_lowest}
 
 -- there is one lowest arc
-one_lowest : (set : ArcSet) (from : ℕ) (one other : Option ℕ) → IsLowest set from one → IsLowest set from other → one ≡ other
+pub one_lowest : (set : ArcSet) (from : ℕ) (one other : Option ℕ) → IsLowest set from one → IsLowest set from other → one ≡ other
 one_lowest set from (Some arc) (Some other) one two =
     let no_lower = apart set arc other one.2 (two.3 arc one.0) in
     let no_higher = apart set other arc two.2 (one.3 other two.0) in
     ap Some (omega (arith, no_lower, no_higher))
   where
-    -- an arc that is in a set is not below one below which none is
+    -- an arc of the set is not below another, if below that other there is none
     apart : (set : ArcSet) (arc other : ℕ) → set arc ≡ true → (arc < other → set arc ≡ false) → other ≤ arc
     apart set arc other is out = go (nat_lt arc other) refl
       where
@@ -28,7 +27,7 @@ one_lowest set from None (Some arc) one two = absurd (both_ways (set arc) (one a
 one_lowest set from None None one two = refl
 
 -- an arc is in a set where the lowest that is not below it is that arc, and only there
-lowest_is_itself : (set : ArcSet) (arc : ℕ) (lowest : Option ℕ) → arc ≤ arc_limit → IsLowest set arc lowest
+pub lowest_is_itself : (set : ArcSet) (arc : ℕ) (lowest : Option ℕ) → arc ≤ arc_limit → IsLowest set arc lowest
     → option_eq nat_eq lowest (Some arc) ≡ set arc
 lowest_is_itself set arc (Some found) within h = go (nat_eq found arc) refl
   where
@@ -37,13 +36,8 @@ lowest_is_itself set arc (Some found) within h = go (nat_eq found arc) refl
     go false other = sym (h.3 arc (omega arith) (omega (arith, h.0, eqb-false found arc other)))
 lowest_is_itself set arc None within h = sym (h arc (omega arith) within)
 
-pub has_arc : (set : ArcSet) (arc : ℕ) (answer : Option ℕ) → arc < 2 ^ 32 → IsLowest set arc answer
-    → option_eq nat_eq answer (Some arc) ≡ set arc
-has_arc set arc answer fits = lowest_is_itself set arc answer (limit_width arc fits)
-
 -- the lowest arc of a set is that of every set with the same arcs
-same_lowest : (one other : ArcSet) → ((arc : ℕ) → arc ≤ arc_limit → one arc ≡ other arc)
-    → (from : ℕ) (lowest : Option ℕ) → IsLowest other from lowest → IsLowest one from lowest
+same_lowest : (one other : ArcSet) → SameArcs one other → (from : ℕ) (lowest : Option ℕ) → IsLowest other from lowest → IsLowest one from lowest
 same_lowest one other same from (Some arc) h = (
   h.0,
   h.1,
@@ -52,17 +46,17 @@ same_lowest one other same from (Some arc) h = (
 )
 same_lowest one other same from None h = λ arc above within. same arc within ∙ h arc above within
 
+pub only_lowest : OnlyLowest
+only_lowest set from answer = (
+  λ answers. one_lowest set from answer (lowest_from set from) answers (search_is_lowest set from),
+  λ same. subst (IsLowest set from) (sym same) (search_is_lowest set from),
+)
+
 pub one_answer : OneAnswer
 one_answer one other same asked answer another here there =
-    one_lowest one.set asked answer another here (same_lowest one.set other.set same asked another there)
-
-pub answers_lowest : AnswersLowest
-answers_lowest meaning asked answer = (
-  λ answers. one_lowest meaning.set asked answer (lowest_from meaning.set asked) answers (search_is_lowest meaning.set asked),
-  λ same. subst (IsLowest meaning.set asked) (sym same) (search_is_lowest meaning.set asked),
-)
+    one_lowest one asked answer another here (same_lowest one other same asked another there)
 
 pub answers_tell_set : AnswersTellSet
 answers_tell_set one other same arc within =
     let both = same arc within in
-    sym (lowest_is_itself one.set arc both.0 within both.1) ∙ lowest_is_itself other.set arc both.0 within both.2
+    sym (lowest_is_itself one arc both.0 within both.1) ∙ lowest_is_itself other arc both.0 within both.2

@@ -19,6 +19,6 @@ told_number None = 0
 told_number (Some refusal) = number_of refusal
 
 -- what a rule stands for: the set that it was made for, or no arc where it was refused
-abbrev pub unless : Option RuleRefusal → ArcSet → ArcSet
-unless None set = set
-unless (Some refusal) set = no_arc
+abbrev pub unless_refused : Option RuleRefusal → ArcSet → ArcSet
+unless_refused None set = set
+unless_refused (Some refusal) set = no_arc

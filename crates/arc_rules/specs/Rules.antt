@@ -7,6 +7,6 @@ use Rattle.arc_rules.specs.Lowest.{IsLowest}
 pub record Meaning : Type 0 where
   pub set : ArcSet
 
--- a rule's answer to a question: the lowest arc of its set that is not below the one asked for
+-- a rule's answer to a question: the lowest arc of its set that is not below the one asked for, or none where there is none
 abbrev pub Answers : Meaning → ℕ → Option ℕ → Type 0
 Answers meaning asked answer = IsLowest meaning.set asked answer

@@ -5,7 +5,7 @@ ghost use Rattle.arc_rules.specs.Sets.{without};
 use crate::rule::ArcRule;
 use oid::{Arc, next_arc};
 
-// A layer over any rule, another layer too: its arcs without those from the first to the last.
+// A layer over any rule, another layer too: the arcs of that rule without those from the first to the last.
 #[derive(Clone, Copy, Drop)]
 pub struct HeldBack<R> {
     below: R,

@@ -1,9 +1,10 @@
 // Listed arcs.
-ghost use Rattle.std.specs.Prelude.{◌≡◌, true, [], Some};
-ghost use Rattle.arc_rules.specs.Sets.{among};
+ghost use Rattle.std.specs.Prelude.{◌≡◌, ◌≢◌, true, [], Some, IfSome};
+ghost use Rattle.std.specs.Option.{ForSome};
+ghost use Rattle.arc_rules.specs.Sets.{among, no_arc};
 ghost use Rattle.arc_rules.specs.Lowest.{IsLowest};
 ghost use Rattle.arc_rules.specs.Listed.{ascending, listed_refusal};
-ghost use Rattle.arc_rules.specs.Refusals.{told_number, unless};
+ghost use Rattle.arc_rules.specs.Refusals.{told_number, unless_refused};
 ghost use Rattle.arc_rules.specs.declared.refusal.RuleRefusal.TheVariants.{ListedArcs};
 
 use crate::refusal::RuleRefusal;
@@ -20,13 +21,14 @@ pub struct Listed {
     arcs: ArrayVec<Arc, LISTED_MOST>,
     refusal: Option<RuleRefusal>,
     ghost rising: { ascending arcs.items ≡ true },
+    ghost emptied: { ForSome refusal (λ _. arcs.items ≡ []) },
 }
 
 impl Listed {
     // The rule with these arcs. Are they strictly ascending, and no more than LISTED_MOST? If not, it is refused, and
     // has no arc.
     pub fn new(arcs: &[Arc]) -> Self
-        ensures set { (⟦<Listed as ArcRule>⟧.means result).set ≡ unless (listed_refusal arcs.now) (among arcs.now) }
+        ensures set { (⟦<Listed as ArcRule>⟧.means result).set ≡ unless_refused (listed_refusal arcs.now) (among arcs.now) }
         ensures refusal { result.refusal ≡ listed_refusal arcs.now }
     {
         if !ascending(arcs) {
@@ -51,11 +53,20 @@ impl Listed {
         }
     }
 
-    // 0; or the number of the refusal, if the rule was refused.
-    pub fn tells(&self) -> u8
-        ensures { result ≡ told_number self.now.refusal }
+    // Why the arcs were refused, if they were; the rule then has none.
+    pub fn refusal(&self) -> Option<RuleRefusal>
+        ensures value { result ≡ self.now.refusal }
+        ensures empty { IfSome result (λ _. (⟦<Listed as ArcRule>⟧.means self.now).set ≡ no_arc) }
     {
-        self.refusal.map_or(0, RuleRefusal::number)
+        self.refusal
+    }
+
+    // The number of that refusal; 0 where there is none.
+    pub fn tells(&self) -> u8
+        ensures value { result ≡ told_number self.now.refusal }
+        ensures empty { result ≢ 0 → (⟦<Listed as ArcRule>⟧.means self.now).set ≡ no_arc }
+    {
+        self.refusal().map_or(0, RuleRefusal::number)
     }
 }
 

@@ -1,4 +1,4 @@
-// Why a rule could not be made.
+// Why the arcs that a rule was to list were refused.
 ghost use Rattle.std.specs.Prelude.{◌≡◌, Some};
 ghost use Rattle.arc_rules.specs.Refusals.{number_of, words_of};
 
@@ -6,7 +6,7 @@ use crate::listed::LISTED_MOST;
 use std::error::Error;
 use std::fmt;
 
-// The refusals of arc rules. The numbers are what rules tell.
+// The refusals of arc rules. The number is what a rule tells.
 #[derive(Clone, Copy, PartialEq, Eq, Debug)]
 pub enum RuleRefusal {
     ListedArcs = 27,

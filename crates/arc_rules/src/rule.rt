@@ -4,7 +4,7 @@ ghost use Rattle.arc_rules.specs.Rules.{Meaning, Answers};
 
 use oid::Arc;
 
-// A rule about arcs: it stands for a set of them, which never changes, and answers one question about it.
+// A rule about arcs: it stands for a set of them, which no question changes, and answers one question about it.
 pub trait ArcRule {
     // what the rule means
     ghost means: { Self → Meaning };
@@ -15,7 +15,6 @@ pub trait ArcRule {
 }
 
 // Whether an arc is in a rule's set.
-#[tactic(auto, using(crate::proofs::Theorems::has_arc))]
 pub fn has_arc<R: ArcRule>(rule: &R, arc: Arc) -> bool
     ensures { result ≡ (R.means rule.now).set arc }
 {

@@ -1,4 +1,4 @@
-// Examples of arc rules: one that `arc_rules` has not, and piles of layers, tried against a plain loop.
+// Examples of arc rules: one that `arc_rules` does not have, and piles of layers, tried against a plain loop.
 #![tactic(auto)]
 
 pub mod even;

@@ -50,7 +50,7 @@ fn plain(arcs: &[Arc], layers: &[(Arc, Arc); 3], asked: Arc) -> Option<Arc> {
     None
 }
 
-// Whether the rule answers so for each arc from 0 to 10.
+// Whether the rule answers as the plain loop does, for each arc from 0 to 10.
 fn agrees<R: ArcRule>(rule: &R, arcs: &[Arc], layers: &[(Arc, Arc); 3]) -> bool {
     (0..11).all(|asked| {
         let lowest = plain(arcs, layers, asked);
