@@ -1,5 +1,5 @@
 -- Ascending lists of arcs, and the first arc in one that is not below an arc.
-use Rattle.std.proofs.Common.{◌≡◌, ◌≤◌, ◌<◌, ◌+◌, ◌||◌, ℕ, zero, suc, Bool, true, false, cond, List, [], ◌∷◌, Some, None, Option, length, nat_eq, nat_lt, nat_le, slice_index_or, refl, sym, subst, arith}
+use Rattle.std.proofs.Common.{◌≡◌, ◌≤◌, ◌<◌, ◌+◌, ℕ, zero, suc, Bool, true, false, cond, List, [], ◌∷◌, Some, None, Option, length, nat_eq, nat_lt, nat_le, slice_index_or, refl, sym, subst, arith}
 use Rattle.std.proofs.lemmas.Bool.{and_from, and_parts, and_left, and_right, or_from, or_left, or_right, ne_eqb, eq-eqb, leb-true, leb-false, ltb-true}
 use Rattle.std.specs.List.{find, IsAllAdjacentAnswer}
 use Rattle.oid.specs.Arcs.{arc_limit}
@@ -7,10 +7,11 @@ use Rattle.arc_rules.specs.Sets.{among}
 use Rattle.arc_rules.specs.Lowest.{IsLowest}
 use Rattle.arc_rules.specs.Listed.{ascending}
 
--- An arc and the next of a list, by their places.
+-- the places of an arc and of the next in a list; the next has a variable of its own, since a list computes at none plus one
 abbrev Neighbours : List ℕ → ℕ → ℕ → Type 0
 Neighbours arcs place next = (next ≡ place + 1) × (next < length arcs)
 
+-- a list ascends if each arc is below the next
 rises : (arcs : List ℕ)
     → ((place next d : ℕ) → Neighbours arcs place next → nat_lt (slice_index_or arcs place d) (slice_index_or arcs next d) ≡ true)
     → ascending arcs ≡ true
@@ -20,6 +21,7 @@ rises (arc ∷ second ∷ arcs) all =
     and_from (nat_lt arc second) _ (all 0 1 0 (refl, omega arith))
     (rises (second ∷ arcs) (λ place next d h. all (suc place) (suc next) d (omega (arith, h.0), omega (arith, h.1))))
 
+-- and does not if one is not
 falls : (arcs : List ℕ) (place next : ℕ) → Neighbours arcs place next
     → ((d : ℕ) → nat_lt (slice_index_or arcs place d) (slice_index_or arcs next d) ≡ false)
     → ascending arcs ≡ false
@@ -43,10 +45,7 @@ adjacent arcs false some = sym (falls arcs some.0 (some.0 + 1) (refl, some.1) (�
 
 -- an arc that is below the first of an ascending list is not among them
 below_first : (arc lower : ℕ) (arcs : List ℕ) → ascending (arc ∷ arcs) ≡ true → lower < arc → among (arc ∷ arcs) lower ≡ false
-below_first arc lower [] rising h = none lower arc h
-  where
-    none : (lower arc : ℕ) → lower < arc → nat_eq lower arc || false ≡ false
-    none lower arc h = or_from (nat_eq lower arc) false (ne_eqb lower arc (λ same. omega (arith, h, same))) refl
+below_first arc lower [] rising h = or_from (nat_eq lower arc) false (ne_eqb lower arc (λ same. omega (arith, h, same))) refl
 below_first arc lower (next ∷ arcs) rising h =
     let parts = and_parts (nat_lt arc next) _ rising in
     let higher = ltb-true arc next parts.0 in

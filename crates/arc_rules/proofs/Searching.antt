@@ -7,12 +7,12 @@ use Rattle.arc_rules.specs.Sets.{ArcSet}
 use Rattle.arc_rules.specs.Lowest.{lowest_from, IsLowest}
 
 -- what is found among so many numbers that begin with a given one: one of them that is in the set, and none below it is; or none is
-abbrev pub Finds : ArcSet → ℕ → ℕ → Option ℕ → Type 0
+abbrev Finds : ArcSet → ℕ → ℕ → Option ℕ → Type 0
 Finds set from count (Some arc) = (from ≤ arc) × (arc < from + count) × (set arc ≡ true)
     × ((between : ℕ) → from ≤ between → between < arc → set between ≡ false)
 Finds set from count None = (arc : ℕ) → from ≤ arc → arc < from + count → set arc ≡ false
 
--- if a number is out of a set, and an arc is out wherever it is above that number, then an arc that is not below it is out
+-- an arc that is not below a number is out of a set, if that number is, and if the arc is wherever it is above
 one_more : (set : ArcSet) (from arc : ℕ) → set from ≡ false → from ≤ arc → (from + 1 ≤ arc → set arc ≡ false) → set arc ≡ false
 one_more set from arc out above later = go (nat_lt from arc) refl
   where
@@ -32,7 +32,7 @@ finds_later set from count out (Some arc) h = (
 )
 finds_later set from count out None h = λ arc above below. one_more set from arc out above (λ later. h arc later (omega (arith, below)))
 
-pub finds : (set : ArcSet) (from count : ℕ) → Finds set from count (find set (range_with_len from count))
+finds : (set : ArcSet) (from count : ℕ) → Finds set from count (find set (range_with_len from count))
 finds set from zero = λ arc above below. absurd (omega (arith, above, below))
 finds set from (suc count) = go (set from) refl (finds set (from + 1) count)
   where
@@ -44,10 +44,10 @@ finds set from (suc count) = go (set from) refl (finds set (from + 1) count)
     go false is rest = finds_later set from count is later rest
 
 -- the first of an arc and all above it is the lowest
-first_is_lowest : (set : ArcSet) (from : ℕ) (found : Option ℕ) → Finds set from (arc_limit + 1 - from) found → IsLowest set from found
-first_is_lowest set from (Some arc) h = (h.0, omega (arith, h.0, h.1), h.2, h.3)
-first_is_lowest set from None h = λ arc above within. h arc above (omega (arith, above, within))
+found_is_lowest : (set : ArcSet) (from : ℕ) (found : Option ℕ) → Finds set from (arc_limit + 1 - from) found → IsLowest set from found
+found_is_lowest set from (Some arc) h = (h.0, omega (arith, h.0, h.1), h.2, h.3)
+found_is_lowest set from None h = λ arc above within. h arc above (omega (arith, above, within))
 
 pub search_is_lowest : (set : ArcSet) (from : ℕ) → IsLowest set from (lowest_from set from)
 unfolding lowest_from
-search_is_lowest set from = first_is_lowest set from _ (finds set from (arc_limit + 1 - from))
+search_is_lowest set from = found_is_lowest set from _ (finds set from (arc_limit + 1 - from))

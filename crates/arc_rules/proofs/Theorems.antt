@@ -1,4 +1,4 @@
--- There is one lowest arc; and what follows from that.
+-- The laws of arc rules, and that there is one lowest arc, from which they follow.
 use Rattle.std.proofs.Common.{◌≡◌, ℕ, ◌<◌, ◌≤◌, Bool, true, false, Some, None, Option, nat_lt, nat_eq, refl, sym, ap, ◌∙◌, subst, arith}
 use Rattle.std.specs.Option.{option_eq}
 use Rattle.std.proofs.lemmas.Bool.{eqb-true, eqb-false, ltb-true, ltb-false, both_ways}
@@ -8,11 +8,11 @@ use Rattle.arc_rules.specs.Lowest.{IsLowest, lowest_from}
 use Rattle.arc_rules.specs.Laws.{SameArcs, OneAnswer, OnlyLowest, AnswersTellSet}
 use Rattle.arc_rules.proofs.Searching.{search_is_lowest}
 
--- there is one lowest arc
-pub one_lowest : (set : ArcSet) (from : ℕ) (one other : Option ℕ) → IsLowest set from one → IsLowest set from other → one ≡ other
-one_lowest set from (Some arc) (Some other) one two =
-    let no_lower = apart set arc other one.2 (two.3 arc one.0) in
-    let no_higher = apart set other arc two.2 (one.3 other two.0) in
+-- there is one
+one_lowest : (set : ArcSet) (from : ℕ) (one other : Option ℕ) → IsLowest set from one → IsLowest set from other → one ≡ other
+one_lowest set from (Some arc) (Some other) here there =
+    let no_lower = apart set arc other here.2 (there.3 arc here.0) in
+    let no_higher = apart set other arc there.2 (here.3 other there.0) in
     ap Some (omega (arith, no_lower, no_higher))
   where
     -- an arc of the set is not below another, if below that other there is none
@@ -22,9 +22,9 @@ one_lowest set from (Some arc) (Some other) one two =
         go : (v : Bool) → nat_lt arc other ≡ v → other ≤ arc
         go true lower = absurd (both_ways (set arc) (out (ltb-true arc other lower)) is)
         go false no_lower = ltb-false arc other no_lower
-one_lowest set from (Some arc) None one two = absurd (both_ways (set arc) (two arc one.0 one.1) one.2)
-one_lowest set from None (Some arc) one two = absurd (both_ways (set arc) (one arc two.0 two.1) two.2)
-one_lowest set from None None one two = refl
+one_lowest set from (Some arc) None here there = absurd (both_ways (set arc) (there arc here.0 here.1) here.2)
+one_lowest set from None (Some arc) here there = absurd (both_ways (set arc) (here arc there.0 there.1) there.2)
+one_lowest set from None None here there = refl
 
 -- an arc is in a set where the lowest that is not below it is that arc, and only there
 pub lowest_is_itself : (set : ArcSet) (arc : ℕ) (lowest : Option ℕ) → arc ≤ arc_limit → IsLowest set arc lowest

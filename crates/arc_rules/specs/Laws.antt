@@ -1,10 +1,10 @@
--- What follows of all arc rules from how they answer, whatever else a rule may mean: of sets, and of their lowest arcs.
+-- What follows of all arc rules from how they answer. It is said of sets, so that it holds whatever else a rule may mean.
 use Rattle.std.specs.Prelude.{ℕ, ◌≤◌, ◌≡◌, ◌↔◌, Option}
 use Rattle.oid.specs.Arcs.{arc_limit}
 use Rattle.arc_rules.specs.Sets.{ArcSet}
 use Rattle.arc_rules.specs.Lowest.{IsLowest, lowest_from}
 
--- what is true of the lowest arc is true of what the search finds, and of nothing else
+-- the lowest arc is what the search finds, and nothing else
 abbrev pub OnlyLowest : Type 0
 OnlyLowest = (set : ArcSet) (from : ℕ) (answer : Option ℕ) → IsLowest set from answer ↔ (answer ≡ lowest_from set from)
 

@@ -12,7 +12,7 @@ arcs_from arc = range_with_len arc (arc_limit + 1 - arc)
 unfoldable pub lowest_from : ArcSet → ℕ → Option ℕ
 lowest_from set arc = find set (arcs_from arc)
 
--- What is true of it, and of nothing else: an arc of the set that is not below the one given, with no arc of the set
+-- What is true of the lowest arc, and of nothing else: it is an arc of the set that is not below the one given, with no arc of the set
 -- between; or none, where no arc from the one given up to the limit is in the set.
 abbrev pub IsLowest : ArcSet → ℕ → Option ℕ → Type 0
 IsLowest set from (Some arc) = (from ≤ arc) × (arc ≤ arc_limit) × (set arc ≡ true)

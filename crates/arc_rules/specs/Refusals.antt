@@ -3,15 +3,15 @@ use Rattle.std.specs.Prelude.{ℕ, List, ◌++◌, codes, decimal, Some, None, O
 use Rattle.arc_rules.specs.Sets.{ArcSet, no_arc}
 use Rattle.arc_rules.specs.Listed.{listed_most}
 use Rattle.arc_rules.specs.declared.refusal.RuleRefusal.{RuleRefusal}
-use Rattle.arc_rules.specs.declared.refusal.RuleRefusal.TheVariants.{ListedArcs}
+use Rattle.arc_rules.specs.declared.refusal.RuleRefusal.TheVariants.{UnfitList}
 
 -- the number that a refusal is told by
 abbrev pub number_of : RuleRefusal → ℕ
-number_of ListedArcs = 27
+number_of UnfitList = 27
 
 -- what is wrong
 abbrev pub words_of : RuleRefusal → List ℕ
-words_of ListedArcs = codes "the listed arcs are not strictly ascending, or more than " ++ decimal listed_most
+words_of UnfitList = codes "the listed arcs are not strictly ascending, or more than " ++ decimal listed_most
 
 -- what a rule tells of its making: the number of the refusal, or 0 where nothing was refused
 abbrev pub told_number : Option RuleRefusal → ℕ

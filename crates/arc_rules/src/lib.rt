@@ -1,4 +1,4 @@
-// Arc rules: sets of arcs that never change, each behind one question; and layers over them.
+// Arc rules: sets of arcs, each behind one question; and layers over them.
 #![tactic(auto)]
 
 pub mod held_back;

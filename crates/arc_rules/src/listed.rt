@@ -1,11 +1,11 @@
-// Listed arcs.
+// The rule of arcs that are listed one by one.
 ghost use Rattle.std.specs.Prelude.{◌≡◌, ◌≢◌, true, [], Some, IfSome};
 ghost use Rattle.std.specs.Option.{ForSome};
 ghost use Rattle.arc_rules.specs.Sets.{among, no_arc};
 ghost use Rattle.arc_rules.specs.Lowest.{IsLowest};
 ghost use Rattle.arc_rules.specs.Listed.{ascending, listed_refusal};
 ghost use Rattle.arc_rules.specs.Refusals.{told_number, unless_refused};
-ghost use Rattle.arc_rules.specs.declared.refusal.RuleRefusal.TheVariants.{ListedArcs};
+ghost use Rattle.arc_rules.specs.declared.refusal.RuleRefusal.TheVariants.{UnfitList};
 
 use crate::refusal::RuleRefusal;
 use crate::rule::ArcRule;
@@ -43,17 +43,18 @@ impl Listed {
         }
     }
 
+    // What a refused list makes.
     fn refused() -> Self
         ensures empty { result.arcs.items ≡ [] }
-        ensures refusal { result.refusal ≡ Some ListedArcs }
+        ensures refusal { result.refusal ≡ Some UnfitList }
     {
         Listed {
             arcs: ArrayVec::new(),
-            refusal: Some(RuleRefusal::ListedArcs),
+            refusal: Some(RuleRefusal::UnfitList),
         }
     }
 
-    // Why the arcs were refused, if they were; the rule then has none.
+    // Why the list was refused, if it was; the rule then has no arc.
     pub fn refusal(&self) -> Option<RuleRefusal>
         ensures value { result ≡ self.now.refusal }
         ensures empty { IfSome result (λ _. (⟦<Listed as ArcRule>⟧.means self.now).set ≡ no_arc) }

@@ -1,4 +1,4 @@
-// Ranges of arcs.
+// The rule of the arcs between two.
 ghost use Rattle.std.specs.Prelude.{◌≡◌};
 ghost use Rattle.arc_rules.specs.Sets.{from_to};
 

@@ -1,4 +1,4 @@
-// Why the arcs that a rule was to list were refused.
+// Why what a rule was to be made from was refused.
 ghost use Rattle.std.specs.Prelude.{◌≡◌, Some};
 ghost use Rattle.arc_rules.specs.Refusals.{number_of, words_of};
 
@@ -9,7 +9,7 @@ use std::fmt;
 // The refusals of arc rules. The number is what a rule tells.
 #[derive(Clone, Copy, PartialEq, Eq, Debug)]
 pub enum RuleRefusal {
-    ListedArcs = 27,
+    UnfitList = 27,
 }
 
 impl RuleRefusal {
@@ -27,7 +27,7 @@ impl fmt::Display for RuleRefusal {
 
     fn fmt<W: fmt::Write>(&self, f: &mut fmt::Formatter<W>) -> fmt::Result {
         match self {
-            RuleRefusal::ListedArcs => write!(
+            RuleRefusal::UnfitList => write!(
                 f,
                 "the listed arcs are not strictly ascending, or more than {LISTED_MOST}"
             ),

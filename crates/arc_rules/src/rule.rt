@@ -6,7 +6,7 @@ use oid::Arc;
 
 // A rule about arcs: it stands for a set of them, which no question changes, and answers one question about it.
 pub trait ArcRule {
-    // what the rule means
+    // the set that it stands for, in the record of all that it means
     ghost means: { Self → Meaning };
 
     // The lowest arc of the set that is not below the one asked for; none where there is none.

@@ -1,7 +1,9 @@
 // Rules alone and under three layers, against a plain loop over a few arcs.
 use crate::EvenArcs;
-use arc_rules::{ArcRule, HeldBack, Listed, Range, has_arc};
+use arc_rules::{ArcRule, HeldBack, Listed, Range, RuleRefusal, has_arc};
+use arrayvec::ArrayString;
 use oid::{ARC_LIMIT, Arc};
+use std::fmt::Write;
 
 // The first and the last arc that each of three layers holds back, the lowest layer first, among arcs from 0 to 9.
 const LAYERS: [[(Arc, Arc); 3]; 9] = [
@@ -88,9 +90,9 @@ fn ranges(rt: HostRuntime) {
 #[test]
 fn a_rule_from_outside(rt: HostRuntime) {
     for layers in &LAYERS {
-        assert!(rt; agrees(&pile(EvenArcs, layers), &[0, 2, 4, 6, 8, 10], layers));
+        assert!(rt; agrees(&pile(EvenArcs::new(), layers), &[0, 2, 4, 6, 8, 10], layers));
     }
-    assert!(rt; EvenArcs.lowest_from(ARC_LIMIT).is_none());
+    assert!(rt; EvenArcs::new().lowest_from(ARC_LIMIT).is_none());
 }
 
 #[test]
@@ -113,4 +115,11 @@ fn at_the_limit(rt: HostRuntime) {
     let top = HeldBack::over(middle, ARC_LIMIT, ARC_LIMIT);
     assert!(rt; top.lowest_from(ARC_LIMIT - 1) == Some(ARC_LIMIT - 1));
     assert!(rt; top.lowest_from(ARC_LIMIT).is_none());
+}
+
+#[test]
+fn words(rt: HostRuntime) {
+    let mut text = ArrayString::<80>::new();
+    assert!(rt; write!(text, "{}", RuleRefusal::UnfitList).is_ok());
+    assert!(rt; text.as_str() == "the listed arcs are not strictly ascending, or more than 32");
 }
