@@ -19,9 +19,9 @@ pub const LISTED_MOST: usize = 32;
 #[derive(Drop)]
 pub struct Listed {
     arcs: ArrayVec<Arc, LISTED_MOST>,
-    refusal: Option<RuleRefusal>,
+    refused_for: Option<RuleRefusal>,
     ghost rising: { ascending arcs.items ≡ true },
-    ghost emptied: { ForSome refusal (λ _. arcs.items ≡ []) },
+    ghost emptied: { ForSome refused_for (λ _. arcs.items ≡ []) },
 }
 
 impl Listed {
@@ -29,7 +29,7 @@ impl Listed {
     // has no arc.
     pub fn new(arcs: &[Arc]) -> Self
         ensures set { (⟦<Listed as ArcRule>⟧.means result).set ≡ unless_refused (listed_refusal arcs.now) (among arcs.now) }
-        ensures refusal { result.refusal ≡ listed_refusal arcs.now }
+        ensures refusal { result.refused_for ≡ listed_refusal arcs.now }
     {
         if !ascending(arcs) {
             return Listed::refused();
@@ -37,7 +37,7 @@ impl Listed {
         match ArrayVec::try_from(arcs) {
             Ok(own) => Listed {
                 arcs: own,
-                refusal: None,
+                refused_for: None,
             },
             Err(_) => Listed::refused(),
         }
@@ -46,25 +46,25 @@ impl Listed {
     // What a refused list makes.
     fn refused() -> Self
         ensures empty { result.arcs.items ≡ [] }
-        ensures refusal { result.refusal ≡ Some UnfitList }
+        ensures refusal { result.refused_for ≡ Some UnfitList }
     {
         Listed {
             arcs: ArrayVec::new(),
-            refusal: Some(RuleRefusal::UnfitList),
+            refused_for: Some(RuleRefusal::UnfitList),
         }
     }
 
     // Why the list was refused, if it was; the rule then has no arc.
     pub fn refusal(&self) -> Option<RuleRefusal>
-        ensures value { result ≡ self.now.refusal }
+        ensures value { result ≡ self.now.refused_for }
         ensures empty { IfSome result (λ _. (⟦<Listed as ArcRule>⟧.means self.now).set ≡ no_arc) }
     {
-        self.refusal
+        self.refused_for
     }
 
     // The number of that refusal; 0 where there is none.
     pub fn tells(&self) -> u8
-        ensures value { result ≡ told_number self.now.refusal }
+        ensures value { result ≡ told_number self.now.refused_for }
         ensures empty { result ≢ 0 → (⟦<Listed as ArcRule>⟧.means self.now).set ≡ no_arc }
     {
         self.refusal().map_or(0, RuleRefusal::number)
