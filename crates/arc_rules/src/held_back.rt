@@ -1,5 +1,6 @@
 // Arcs held back from another rule.
 ghost use Rattle.std.specs.Prelude.{◌≡◌};
+ghost use Rattle.arc_rules.specs.Kept.{layer_set};
 ghost use Rattle.arc_rules.specs.Sets.{without};
 
 use crate::rule::ArcRule;
@@ -23,7 +24,7 @@ impl<R: ArcRule> HeldBack<R> {
 }
 
 impl<R: ArcRule> ArcRule for HeldBack<R> {
-    ghost means = { λ layer. record { set = without layer.first layer.last (R.means layer.below).set } };
+    ghost means = { λ layer. record { set = layer_set (λ below. (R.means below).set) layer } };
 
     fn lowest_from(&self, asked: Arc) -> Option<Arc> {
         let found = self.below.lowest_from(asked)?;

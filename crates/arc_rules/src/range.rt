@@ -1,5 +1,6 @@
 // The rule of the arcs between two.
 ghost use Rattle.std.specs.Prelude.{◌≡◌};
+ghost use Rattle.arc_rules.specs.Kept.{range_set};
 ghost use Rattle.arc_rules.specs.Sets.{from_to};
 
 use crate::rule::ArcRule;
@@ -21,7 +22,7 @@ impl Range {
 }
 
 impl ArcRule for Range {
-    ghost means = { λ range. record { set = from_to range.first range.last } };
+    ghost means = { λ range. record { set = range_set range } };
 
     fn lowest_from(&self, asked: Arc) -> Option<Arc> {
         let lowest = asked.max(self.first);

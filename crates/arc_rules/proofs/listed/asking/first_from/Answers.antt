@@ -7,7 +7,7 @@ use Rattle.std.specs.List.{find}
 use Rattle.oid.proofs.Arcs.{limit_width}
 use Rattle.arc_rules.specs.Lowest.{IsLowest}
 use Rattle.arc_rules.proofs.Listing.{first_is_lowest}
-use Rattle.arc_rules.proofs.listed.first_from.Goals as goal
+use Rattle.arc_rules.proofs.listed.asking.first_from.Goals as goal
 
 pub returns : goal.returns
 returns c =
