@@ -1,0 +1,16 @@
+pub mod Kinds
+pub mod Refusals
+pub mod Book
+pub mod Left
+pub mod Free
+pub mod Order
+pub mod Calls
+pub mod Rulings
+pub mod Questions
+pub mod Grants
+pub mod Founding
+pub mod Runs
+pub mod Given
+pub mod Law
+pub mod Beneath
+pub mod Example
