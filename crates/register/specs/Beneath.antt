@@ -1,17 +1,16 @@
 -- What holds of the book in every run, beneath the law.
-use Rattle.std.specs.Prelude.{ℕ, ◌+◌, ◌≤◌, ◌≡◌, ◌≢◌, ◌⊎◌, Bool, true, false, cond, List, [], length, sum_by, Some, None, Option}
+use Rattle.std.specs.Prelude.{ℕ, ◌+◌, ◌≤◌, ◌≡◌, ◌≢◌, ◌⊎◌, Bool, true, false, cond, List, [], length, sum_by, Some, None}
 use Rattle.oid.specs.Tree.{is_identifier}
 use Rattle.register.specs.Kinds.{is_authority, holds_quota}
 use Rattle.register.specs.Book.{Entry, Book, most_entries, found, parent_in}
 use Rattle.register.specs.Left.{left}
-use Rattle.register.specs.Calls.{Call, grant, claim, offer, accept, decline, retire, roll, collect, accept_grant, decline_grant}
+use Rattle.register.specs.Calls.{Call, accept_grant, decline_grant}
 use Rattle.register.specs.Rulings.{refused}
 use Rattle.register.specs.Questions.{Rules, answer}
 use Rattle.register.specs.Founding.{Founding, founding_refusal, founded}
 use Rattle.register.specs.Runs.{Lines, Exchange, Runs, book_at_end}
 use Rattle.register.specs.declared.kind.Kind.{Kind}
 use Rattle.register.specs.declared.kind.Kind.TheVariants.{Panel, Retired, Offered, InHand, Open, Declined}
-use Rattle.register.specs.declared.refusal.Refusal.{Refusal}
 use Rattle.register.specs.declared.refusal.Refusal.TheVariants.{NotInBook, BookFull, NotInHand}
 use Rattle.register.specs.declared.founding.FoundingRefusal.{FoundingRefusal}
 

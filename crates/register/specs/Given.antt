@@ -1,8 +1,8 @@
 -- What a run gave, and what it declined, read off what was sent and what came back.
 use Rattle.std.specs.Prelude.{ℕ, List, filter_map, Some, None, Option}
-use Rattle.std.specs.Option.{option_map, option_and, option_and_then}
-use Rattle.register.specs.Calls.{Call, grant, claim, offer, accept, decline, retire, roll, collect, accept_grant, decline_grant}
-use Rattle.register.specs.Runs.{Sent, line, collects, accepts_grant, declines_grant, Back, too_short, written, handed, done, number, Lines, Exchange}
+use Rattle.std.specs.Option.{option_and, option_and_then}
+use Rattle.register.specs.Calls.{Call, grant, claim, offer, decline, decline_grant}
+use Rattle.register.specs.Runs.{Sent, line, declines_grant, Back, written, done, Lines, Exchange}
 
 -- A gift: who gave, the identifier that was given, and of an offer its quota.
 pub record Gift : Type 0 where

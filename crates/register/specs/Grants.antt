@@ -2,7 +2,7 @@
 use Rattle.std.specs.Prelude.{ℕ, ◌≡◌, cond, List, position, slice_get, slice_set, Some, None, Option, ◌==◌}
 use Rattle.std.specs.Option.{option_map, option_and_then}
 use Rattle.register.specs.Kinds.{next_kind}
-use Rattle.register.specs.Book.{Entry, Book, is_at, found}
+use Rattle.register.specs.Book.{Entry, Book, is_at}
 use Rattle.register.specs.Rulings.{Answer, refused, named, answer_of, book_after}
 use Rattle.register.specs.Questions.{spending}
 use Rattle.register.specs.declared.event.Event.{Event}

@@ -1,5 +1,5 @@
 -- The law over every run.
-use Rattle.std.specs.Prelude.{ℕ, ◌+◌, ◌≤◌, ◌≡◌, ◌≢◌, Bool, true, false, cond, not, ◌&&◌, List, [], ◌∷◌, ◌++◌, map, filter, find, All, AllPairs, count_by, sum_by, unwrap_or, Some, None, Ok, Option}
+use Rattle.std.specs.Prelude.{ℕ, ◌+◌, ◌≤◌, ◌≡◌, ◌≢◌, Bool, true, false, cond, not, List, [], ◌∷◌, ◌++◌, map, filter, find, All, AllPairs, count_by, sum_by, unwrap_or, Some, None, Ok, Option}
 use Rattle.std.specs.List.{list_any}
 use Rattle.std.specs.Option.{option_map, option_or, option_and_then}
 use Rattle.oid.specs.Arcs.{arc_limit}

@@ -4,6 +4,7 @@ pub mod Book
 pub mod Left
 pub mod Free
 pub mod Order
+pub mod Rolls
 pub mod Calls
 pub mod Rulings
 pub mod Questions

@@ -103,7 +103,7 @@ pub record Exchange : Type 0 where
 -- An exchange is served by the rules: what came back is their answer at the book before, and the book after is theirs.
 pub record Serves (lines : Lines) (rules : Rules) (before : Book) (exchange : Exchange) : Type 0 where
   pub answered : exchange.back ≡ back_at lines rules before exchange.sent
-  pub left : exchange.book ≡ after_made rules before (made_by lines exchange.sent)
+  pub leaves : exchange.book ≡ after_made rules before (made_by lines exchange.sent)
 
 -- A run: each exchange is served at the book that the one before it left.
 abbrev pub Runs : Lines → Rules → Book → List Exchange → Type 0

@@ -4,6 +4,7 @@
 pub mod event;
 pub mod founding;
 pub mod kind;
+pub mod laws;
 pub mod refusal;
 
 pub use event::Event;

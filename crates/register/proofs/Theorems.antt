@@ -1,0 +1,152 @@
+-- The law over every run, and what holds beneath it.
+use Rattle.std.proofs.Common.{◌≡◌, ◌≢◌, ℕ, true, false, List, [], Some, None, Ok, Option, refl, sym, ap, ◌∙◌, subst, arith}
+use Rattle.std.specs.List.{All, AllPairs}
+use Rattle.std.specs.Option.{option_and_then}
+use Rattle.std.proofs.lemmas.Bool.{both_ways}
+use Rattle.std.proofs.lemmas.Option.{none-some, same_Some}
+use Rattle.register.specs.Kinds.{is_authority}
+use Rattle.std.proofs.lemmas.List.Elements.{All-nil, All-from_recursion}
+use Rattle.oid.specs.Tree.{is_identifier, parent_of}
+use Rattle.oid.proofs.Tree.{some_arcs}
+use Rattle.register.specs.Book.{Entry, Book, is_at, found, parent_in}
+use Rattle.register.specs.Left.{told_left}
+use Rattle.register.specs.Founding.{Founding, founding_refusal, root_entry, founded}
+use Rattle.register.specs.Runs.{answers, identifier_in, Lines, Exchange, Runs}
+use Rattle.register.specs.Given.{Gift, gifts, declines}
+use Rattle.register.specs.Law.{Start, at_founding, Alike, sent_elsewhere, SameElsewhere, ByRule, Law, EveryRun}
+use Rattle.register.specs.Calls.{Call}
+use Rattle.register.specs.Rulings.{refused, Ruling, refuses, enters, turns, tells, answer_of}
+use Rattle.register.specs.Questions.{Rules, ruling, answer}
+use Rattle.register.specs.Beneath.{Reached, GoodFoundings, PanelsHolders}
+use Rattle.register.specs.declared.refusal.Refusal.TheVariants.{BookFull}
+use Rattle.register.specs.declared.founding.FoundingRefusal.{FoundingRefusal}
+use Rattle.register.proofs.Room.{HasRoom, RoomAlong}
+use Rattle.register.proofs.Neighbours.{neighbours}
+use Rattle.register.proofs.Ruled.{Says, ruling_says}
+use Rattle.register.proofs.Sound.{Sound, HasParent}
+use Rattle.register.proofs.Along.{sound_at, run_sound, run_room, run_by_rule, good_book, good_quota, founded_sound}
+use Rattle.register.proofs.Empty.{refused_foundings, refused_book, empty_at_end, empty_gives, empty_roomy}
+use Rattle.register.proofs.Counting.{adds_up, has_room}
+use Rattle.register.proofs.Adding.{found_first, quotas, once}
+use Rattle.register.proofs.Rows.{chosen, found_identifier, found_all}
+
+-- neighbours are unfelt where there is room along both runs
+unfelt : (lines : Lines) (founding : Founding) (other : Start) → Alike (at_founding founding) other
+    → (x : List ℕ) → is_identifier x ≡ true → (run others : List Exchange)
+    → Runs lines founding.rules (founded founding) run → Runs lines other.rules other.book others
+    → RoomAlong (founded founding) run → (Runs lines other.rules (founded founding) others → RoomAlong (founded founding) others)
+    → sent_elsewhere lines x run ≡ sent_elsewhere lines x others → SameElsewhere lines x (founded founding) other.book run others
+unfelt lines founding other alike x is_x run others runs others_run room others_room sent =
+    let other_run = subst (λ book. Runs lines other.rules book others) (sym alike.book) others_run in
+    subst (λ book. SameElsewhere lines x (founded founding) book run others) alike.book
+    (neighbours lines founding.rules other.rules (founded founding) x (some_arcs x is_x) alike.panels alike.authorities run others runs other_run
+    room (others_room other_run) sent)
+
+-- from a good founding
+good_law : (lines : Lines) (founding : Founding) → is_identifier founding.root ≡ true → founding_refusal founding ≡ None
+    → (run : List Exchange) → Runs lines founding.rules (founded founding) run → Law lines (at_founding founding) run
+good_law lines founding identifier good run runs =
+    let start = founded_sound founding identifier good in
+    let sound = run_sound founding founding.rules lines (founded founding) [] [] run start runs in
+    let quota = good_quota founding good in
+    record {
+      neighbours_unfelt = λ x is_x other alike others others_run sent.
+          unfelt lines founding other alike x is_x run others runs others_run
+          (run_room founding founding.rules lines quota (founded founding) [] [] run start runs)
+          (λ other_run. run_room founding other.rules lines quota (founded founding) [] [] others start other_run) sent;
+      given_once = once founding _ _ _ sound;
+      given_by_rule = All-from_recursion (ByRule founding.rules) (gifts lines run)
+          (run_by_rule founding founding.rules lines (founded founding) [] [] run start runs);
+      quotas_add_up = quotas founding _ _ _ sound (good_book founding good);
+    }
+
+nothing_found : (identifier : List ℕ) → found identifier [] ≡ None
+unfolding found
+nothing_found identifier = refl
+
+nobody : (authority : List ℕ) (left : ℕ) → told_left authority [] ≡ Ok left → ⊥
+unfolding found
+nobody authority left told = cc
+
+-- from a refused one
+refused_law : (lines : Lines) (founding : Founding) (refusal : FoundingRefusal) → founding_refusal founding ≡ Some refusal
+    → (run : List Exchange) → Runs lines founding.rules (founded founding) run → Law lines (at_founding founding) run
+refused_law lines founding refusal is run runs =
+    let start = refused_book founding refusal is in
+    let nothing = empty_gives lines founding.rules (founded founding) run start runs in
+    record {
+      neighbours_unfelt = λ x is_x other alike others others_run sent.
+          unfelt lines founding other alike x is_x run others runs others_run
+          (empty_roomy lines founding.rules (founded founding) run start runs)
+          (λ other_run. empty_roomy lines other.rules (founded founding) others start other_run) sent;
+      given_once = subst (AllPairs (λ one other. one.identifier ≢ other.identifier)) (sym nothing) (λ first second d before within. absurd (omega (arith, within)));
+      given_by_rule = subst (All (ByRule founding.rules)) (sym nothing) (All-nil (ByRule founding.rules));
+      quotas_add_up = λ authority left told.
+          let none = ap (told_left authority) (empty_at_end lines founding.rules (founded founding) run start runs) in
+          absurd (nobody authority left (sym none ∙ told));
+    }
+
+pub every_run : EveryRun
+every_run lines start begins run runs =
+    subst (λ start. Law lines start run) (sym begins.2)
+    (go (founding_refusal begins.0) refl (subst (λ start. Runs lines start.rules start.book run) begins.2 runs))
+  where
+    go : (refusal : Option FoundingRefusal) → founding_refusal begins.0 ≡ refusal → Runs lines begins.0.rules (founded begins.0) run
+        → Law lines (at_founding begins.0) run
+    go None good runs = good_law lines begins.0 begins.1 good run runs
+    go (Some refusal) is runs = refused_law lines begins.0 refusal is run runs
+
+-- ---- beneath the law
+
+-- what holds at the end of a run from a good founding
+reached_sound : (founding : Founding) (book : Book) → is_identifier founding.root ≡ true → founding_refusal founding ≡ None
+    → (reached : Reached founding book) → Sound founding book (gifts reached.lines reached.run) (declines reached.lines reached.run)
+reached_sound founding book identifier good reached =
+    sound_at founding reached.leaves refl refl
+    (run_sound founding founding.rules reached.lines (founded founding) [] [] reached.run (founded_sound founding identifier good) reached.runs)
+
+never_full : (rules : Rules) (book : Book) (call : Call) → HasRoom book → answer rules book call ≡ refused BookFull → ⊥
+never_full rules book call room = go (ruling rules book call) (ruling_says rules book call)
+  where
+    go : (r : Ruling) → Says rules book call r → answer_of r ≡ refused BookFull → ⊥
+    go (refuses BookFull) says full = omega (arith, room.room says.o says.authority says.here says.opened says.some, says.full)
+    go (refuses refusal) says full = cc
+    go (enters entry) says full = cc
+    go (turns t kind told) says full = says.granted BookFull full
+    go (tells told) says full = absurd (none-some says.o (sym (ap (λ told. identifier_in (answers told)) full) ∙ says.says))
+
+pub good_foundings : GoodFoundings
+good_foundings founding identifier good book reached =
+    let sound = reached_sound founding book identifier good reached in
+    let all = adds_up founding book _ _ sound in
+    let quota = good_quota founding good in
+    record {
+      adds_up = all;
+      few = omega (arith, all, quota);
+      never_full = λ call. never_full founding.rules book call (has_room founding book _ _ sound quota);
+    }
+
+-- a panel is not the root, so its parent stands in the book, and it has its holder
+panel_holder : (founding : Founding) (book : Book) (given : List Gift) (declined : List (List ℕ)) → Sound founding book given declined
+    → (identifier : List ℕ) (panel : Entry) → found identifier book ≡ Some panel → is_authority panel.kind ≡ false
+    → (authority : Entry) × (parent_in identifier book ≡ Some authority) × (panel.holder ≡ authority.holder)
+panel_holder founding book given declined sound identifier panel here is_panel =
+    let is = found_identifier identifier book panel here in
+    chosen (is_at identifier (root_entry founding)) _ _ _ (sym (found_first identifier (root_entry founding) sound.rest) ∙ (sym (ap (found identifier) sound.is) ∙ here))
+    (λ _ root. absurd (both_ways true (ap (λ entry. is_authority entry.kind) (same_Some _ _ root) ∙ is_panel) refl))
+    (λ _ later.
+    let p = found_all (HasParent book) identifier sound.rest panel sound.parents later in (
+      p.authority,
+      ap (option_and_then (λ parent. found parent book)) (ap parent_of (sym is) ∙ p.is) ∙ p.here,
+      p.holder is_panel,
+    ))
+
+pub panels_holders : PanelsHolders
+panels_holders founding identifier book reached one panel here is_panel = go (founding_refusal founding) refl
+  where
+    go : (refusal : Option FoundingRefusal) → founding_refusal founding ≡ refusal
+        → (authority : Entry) × (parent_in one book ≡ Some authority) × (panel.holder ≡ authority.holder)
+    go None good = panel_holder founding book _ _ (reached_sound founding book identifier good reached) one panel here is_panel
+    go (Some refusal) is =
+        let empty = (refused_foundings founding refusal is book reached).0 in
+        absurd (none-some panel (sym (nothing_found one) ∙ (ap (found one) (sym empty) ∙ here)))
