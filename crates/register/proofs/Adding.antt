@@ -3,7 +3,7 @@ use Rattle.std.proofs.Common.{◌≡◌, ◌≢◌, ℕ, zero, suc, ◌+◌, ◌
 use Rattle.std.specs.List.{find, sum_by, count_by, AllByRecursion, AllPairs}
 use Rattle.std.specs.Option.{option_map, option_or, option_and_then, option_eq}
 use Rattle.std.proofs.lemmas.Bool.{both_ways, cond-true, cond-false}
-use Rattle.std.proofs.lemmas.Option.{none-some, same_Some}
+use Rattle.std.proofs.lemmas.Option.{none-some}
 use Rattle.std.proofs.lemmas.List.{get_or-map, length-map}
 use Rattle.std.proofs.lemmas.List.Elements.{All-from_recursion}
 use Rattle.std.proofs.lemmas.List.Sums.{sum_by-cons}
@@ -12,14 +12,15 @@ use Rattle.register.specs.Book.{Entry, Book, same, is_at, found, children}
 use Rattle.register.specs.Left.{counted, used, left, left_of, told_left}
 use Rattle.register.specs.Founding.{Founding, root_entry, founded}
 use Rattle.register.specs.Given.{Gift}
-use Rattle.register.specs.Law.{at_founding, quota_of, count_given, quota_out, sum_out}
+use Rattle.register.specs.Law.{quota_in, at_founding, quota_of, count_given, still_taken, sum_taken}
 use Rattle.register.specs.declared.kind.Kind.{Kind}
 use Rattle.register.specs.declared.kind.Kind.TheVariants.{Panel, Retired, Offered, InHand, Open, Declined}
 use Rattle.register.proofs.Identifiers.{same_itself}
 use Rattle.register.proofs.Rows.{chosen, found_identifier, found_all, all_both}
 use Rattle.register.proofs.Shares.{share, used_is, sum_same}
 use Rattle.register.proofs.Sound.{Sound, HasParent, is_declined_at, root_apart, left_is}
-use Rattle.register.proofs.Ruled.{is_declined, offered_with, row_gift}
+use Rattle.register.proofs.Changes.{is_declined}
+use Rattle.register.proofs.Ruled.{row_gift}
 use Rattle.register.proofs.Counting.{sum_add, rows_found, none_passes}
 
 sum_map : {X Y : Type 0} (f : Y → ℕ) (g : X → Y) (xs : List X) → sum_by f (map g xs) ≡ sum_by (λ x. f (g x)) xs
@@ -37,82 +38,100 @@ out_is InHand quota = refl
 out_is Open quota = refl
 out_is Declined quota = refl
 
--- the gift by which an entry that is found came is found among the gifts
-find_gift : (identifier : List ℕ) (rows : List Entry) (entry : Entry) → found identifier rows ≡ Some entry
-    → find (λ gift. same gift.identifier identifier) (map row_gift rows) ≡ Some (row_gift entry)
+-- among the gifts of some rows, the gift of an identifier is that of the row that is found
+find_gift : (identifier : List ℕ) (rows : List Entry)
+    → find (λ gift. same gift.identifier identifier) (map row_gift rows) ≡ option_map row_gift (found identifier rows)
 unfolding found
-find_gift identifier [] entry e = absurd (none-some entry e)
-find_gift identifier (row ∷ rows) entry e =
-    chosen (is_at identifier row) _ _ _ e (λ here is. cond-true _ _ _ here ∙ ap (λ entry. Some (row_gift entry)) (same_Some row entry is))
-    (λ apart is. cond-false _ _ _ apart ∙ find_gift identifier rows entry is)
+find_gift identifier [] = refl
+find_gift identifier (row ∷ rows) =
+    chosen (is_at identifier row) true false _ refl
+    (λ here _. cond-true _ _ _ here ∙ ap (option_map row_gift) (sym (cond-true _ _ _ here)))
+    (λ apart _. cond-false _ _ _ apart ∙ find_gift identifier rows ∙ ap (option_map row_gift) (sym (cond-false _ _ _ apart)))
 
 found_alone : (identifier : List ℕ) (root : Entry) → found identifier (root ∷ []) ≡ cond (is_at identifier root) (Some root) None
 unfolding found
 found_alone identifier root = refl
 
-pub found_first : (identifier : List ℕ) (root : Entry) (rest : List Entry) → found identifier (root ∷ rest) ≡ cond (is_at identifier root) (Some root) (found identifier rest)
+pub found_first : (identifier : List ℕ) (root : Entry) (rest : List Entry)
+    → found identifier (root ∷ rest) ≡ cond (is_at identifier root) (Some root) (found identifier rest)
 unfolding found
 found_first identifier root rest = refl
 
 module _ (founding : Founding) (book : Book) (gifts : List Gift) (declined : List (List ℕ)) (sound : Sound founding book gifts declined) where
-  -- an authority's quota is the founding's, or its offer's
-  came_with : (authority : List ℕ) (entry : Entry) → founded founding ≡ root_entry founding ∷ [] → found authority book ≡ Some entry
-      → is_authority entry.kind ≡ true → quota_of (at_founding founding) gifts authority ≡ Some entry.quota
-  came_with authority entry good here is =
-      ap (λ start. option_or (option_map (λ entry. entry.quota) (found authority start)) offered) good
-      ∙ ap (λ there. option_or (option_map (λ entry. entry.quota) there) offered) (found_alone authority (root_entry founding))
-      ∙ chosen (is_at authority (root_entry founding)) _ _ _ (sym (found_first authority (root_entry founding) sound.rest) ∙ (sym (ap (found authority) sound.is) ∙ here))
-      (λ root same. ap (λ there. option_or (option_map (λ entry. entry.quota) there) offered) (cond-true _ _ _ root)
-      ∙ ap (λ entry. Some entry.quota) (same_Some _ _ same))
-      (λ other later. ap (λ there. option_or (option_map (λ entry. entry.quota) there) offered) (cond-false _ _ _ other)
-      ∙ ap (λ gifts. option_and_then (λ gift. gift.offered) (find (λ gift. same gift.identifier authority) gifts)) sound.gave
-      ∙ ap (option_and_then (λ gift. gift.offered)) (find_gift authority sound.rest entry later)
-      ∙ cond-true _ _ _ is)
+  -- the quota that an authority came with, by the founding or by its offer, is that of its entry
+  quota_is : (authority : List ℕ) → founded founding ≡ root_entry founding ∷ []
+      → quota_of (at_founding founding) gifts authority ≡ option_and_then quota_in (found authority book)
+  quota_is authority good =
+      (λ i. option_or (option_and_then quota_in (found authority (good i))) (offer_among (sound.gave i)))
+      ∙ ap (λ there. option_or (option_and_then quota_in there) (offer_among (map row_gift sound.rest))) (found_alone authority (root_entry founding))
+      ∙ chosen (is_at authority (root_entry founding)) true false _ refl
+      (λ root _. ap (λ there. option_or (option_and_then quota_in there) (offer_among (map row_gift sound.rest))) (cond-true _ _ _ root)
+      ∙ sym (ap (option_and_then quota_in) (first ∙ cond-true _ _ _ root)))
+      (λ other _. ap (λ there. option_or (option_and_then quota_in there) (offer_among (map row_gift sound.rest))) (cond-false _ _ _ other)
+      ∙ ap (option_and_then (λ gift. gift.offered)) (find_gift authority sound.rest) ∙ by_row (found authority sound.rest)
+      ∙ sym (ap (option_and_then quota_in) (first ∙ cond-false _ _ _ other)))
     where
-      offered : Option ℕ
-      offered = option_and_then (λ gift. gift.offered) (find (λ gift. same gift.identifier authority) gifts)
+      offer_among : List Gift → Option ℕ
+      offer_among among = option_and_then (λ gift. gift.offered) (find (λ gift. same gift.identifier authority) among)
 
-  -- what a row has used up of an authority's quota, by its gift
-  by_gift : List ℕ → Entry → ℕ
-  by_gift authority row = cond (same (row_gift row).giver authority) 1 0 + cond (same (row_gift row).giver authority) (quota_out declined (row_gift row)) 0
+      first : found authority book ≡ cond (is_at authority (root_entry founding)) (Some (root_entry founding)) (found authority sound.rest)
+      first = ap (found authority) sound.is ∙ found_first authority (root_entry founding) sound.rest
 
-  share_is : (authority : List ℕ) (row : Entry) → HasParent book row → found row.identifier book ≡ Some row → share authority row ≡ by_gift authority row
+      by_row : (row : Option Entry) → option_and_then (λ gift. gift.offered) (option_map row_gift row) ≡ option_and_then quota_in row
+      by_row None = refl
+      by_row (Some row) = refl
+
+  -- what a gift has used up of an authority's quota: one, and what it still takes
+  abbrev one_of : List ℕ → Gift → ℕ
+  one_of authority gift = cond (same gift.giver authority) 1 0
+
+  abbrev taken_of : List ℕ → Gift → ℕ
+  taken_of authority gift = cond (same gift.giver authority) (still_taken declined gift) 0
+
+  by_gift : List ℕ → Gift → ℕ
+  by_gift authority gift = one_of authority gift + taken_of authority gift
+
+  share_is : (authority : List ℕ) (row : Entry) → HasParent book row → found row.identifier book ≡ Some row
+      → share authority row ≡ by_gift authority (row_gift row)
   unfolding by_gift
   share_is authority row p here =
       ap (λ parent. cond (option_eq same parent (Some authority)) (counted row) 0) p.is
       ∙ go (same p.parent authority)
-      ∙ sym (ap (λ parent. cond (same (unwrap_or parent []) authority) 1 0 + cond (same (unwrap_or parent []) authority) (quota_out declined (row_gift row)) 0) p.is)
+      ∙ sym (ap (λ parent. by_giver (unwrap_or parent [])) p.is)
     where
-      out : quota_out declined (row_gift row) ≡ cond (holds_quota row.kind) row.quota 0
+      by_giver : List ℕ → ℕ
+      by_giver giver = cond (same giver authority) 1 0 + cond (same giver authority) (still_taken declined (row_gift row)) 0
+
+      out : still_taken declined (row_gift row) ≡ cond (holds_quota row.kind) row.quota 0
       out =
-          ap (λ v. cond v 0 (unwrap_or (offered_with row) 0)) (sound.ended row.identifier ∙ ap is_declined_at here)
+          ap (λ v. cond v 0 (unwrap_or (quota_in row) 0)) (sound.ended row.identifier ∙ ap is_declined_at here)
           ∙ out_is row.kind row.quota
 
-      go : (v : Bool) → cond v (counted row) 0 ≡ cond v 1 0 + cond v (quota_out declined (row_gift row)) 0
+      go : (v : Bool) → cond v (counted row) 0 ≡ cond v 1 0 + cond v (still_taken declined (row_gift row)) 0
       go true = omega (arith, out)
       go false = refl
 
   -- all that its children have used up, by the gifts
   used_by_gifts : (authority : List ℕ) → length founding.root ≤ length authority
-      → used (children authority book) ≡ count_given authority gifts + sum_out authority gifts declined
+      → used (children authority book) ≡ count_given authority gifts + sum_taken authority gifts declined
   unfolding by_gift
   used_by_gifts authority long =
       let rows = subst (λ rows. AllByRecursion (λ row. found row.identifier book ≡ Some row) rows) sound.is (rows_found book sound.apart) in
       let shares =
-      sum_same (share authority) (by_gift authority) sound.rest
+      sum_same (share authority) (λ row. by_gift authority (row_gift row)) sound.rest
       (all_both (HasParent book) (λ row. found row.identifier book ≡ Some row) _ sound.rest (share_is authority) sound.parents rows.1) in
       let all = ap (sum_by (share authority)) sound.is ∙ sum_by-cons (share authority) (root_entry founding) sound.rest in
-      let both = sum_add (λ row. cond (same (row_gift row).giver authority) 1 0) (λ row. cond (same (row_gift row).giver authority) (quota_out declined (row_gift row)) 0) sound.rest in
-      let ones = ap (count_given authority) sound.gave ∙ sum_map (λ gift. cond (same gift.giver authority) 1 0) row_gift sound.rest in
-      let quotas = ap (λ gifts. sum_out authority gifts declined) sound.gave ∙ sum_map (λ gift. cond (same gift.giver authority) (quota_out declined gift) 0) row_gift sound.rest in
+      let both = sum_add (λ row. one_of authority (row_gift row)) (λ row. taken_of authority (row_gift row)) sound.rest in
+      let ones = ap (count_given authority) sound.gave ∙ sum_map (one_of authority) row_gift sound.rest in
+      let quotas = ap (λ gifts. sum_taken authority gifts declined) sound.gave ∙ sum_map (taken_of authority) row_gift sound.rest in
       omega (arith, used_is authority book, all, root_apart founding authority long, shares, both, ones, quotas)
 
   pub quotas : founded founding ≡ root_entry founding ∷ [] → (authority : List ℕ) (rest : ℕ) → told_left authority book ≡ Ok rest
-      → quota_of (at_founding founding) gifts authority ≡ Some (rest + count_given authority gifts + sum_out authority gifts declined)
+      → quota_of (at_founding founding) gifts authority ≡ Some (rest + count_given authority gifts + sum_taken authority gifts declined)
   quotas good authority rest told = go (found authority book) refl told
     where
       go : (there : Option Entry) → found authority book ≡ there → left_of there book ≡ Ok rest
-          → quota_of (at_founding founding) gifts authority ≡ Some (rest + count_given authority gifts + sum_out authority gifts declined)
+          → quota_of (at_founding founding) gifts authority ≡ Some (rest + count_given authority gifts + sum_taken authority gifts declined)
       go None here e = absurd (cc)
       go (Some entry) here e =
           chosen (is_authority entry.kind) _ _ _ e
@@ -122,12 +141,22 @@ module _ (founding : Founding) (book : Book) (gifts : List Gift) (declined : Lis
           let own = found_identifier authority book entry here in
           let by = used_by_gifts authority (omega (arith, long, ap length own)) in
           let used_own = ap (λ identifier. used (children identifier book)) own in
-          came_with authority entry good here is
+          quota_is authority good ∙ ap (option_and_then quota_in) here ∙ cond-true _ _ _ is
           ∙ ap Some (omega (arith, left_here, left_is entry book, used_own, by, sound.within authority entry here)))
           (λ _ told. absurd (cc))
 
+  -- what came with a quota is told what it has left
+  pub told : founded founding ≡ root_entry founding ∷ [] → (authority : List ℕ) (quota : ℕ)
+      → quota_of (at_founding founding) gifts authority ≡ Some quota → (left : ℕ) × (told_left authority book ≡ Ok left)
+  told good authority quota e = go (found authority book) (sym (quota_is authority good) ∙ e)
+    where
+      go : (there : Option Entry) → option_and_then quota_in there ≡ Some quota → (left : ℕ) × (left_of there book ≡ Ok left)
+      go None is = absurd (none-some quota is)
+      go (Some entry) is =
+          chosen (is_authority entry.kind) _ _ _ is (λ authority _. (left entry book, cond-true _ _ _ authority)) (λ _ none. absurd (none-some quota none))
+
 -- rows with identifiers apart, two by two
-pairs_apart : (rows : List Entry) → ((identifier : List ℕ) → count_by (is_at identifier) rows ≤ 1)
+pub pairs_apart : (rows : List Entry) → ((identifier : List ℕ) → count_by (is_at identifier) rows ≤ 1)
     → (first second : ℕ) (d : Entry) → first < second → second < length rows
     → (get_or rows first d).identifier ≡ (get_or rows second d).identifier → ⊥
 pairs_apart [] apart first second d before within is = omega (arith, before, within)

@@ -1,19 +1,20 @@
 -- What holds along every run from a good founding.
 use Rattle.std.proofs.Common.{◌≡◌, ℕ, ◌≤◌, true, false, nat_le, List, [], ◌∷◌, ◌++◌, length, Some, None, Option, unwrap_or, refl, sym, ap, ◌∙◌, subst, arith}
 use Rattle.std.specs.List.{cons_option, list_any, AllByRecursion}
-use Rattle.std.proofs.lemmas.Bool.{leb-true}
+use Rattle.std.proofs.lemmas.Bool.{leb-true, le-leb, and_from}
 use Rattle.std.proofs.lemmas.Option.{none-some, same_Some}
 use Rattle.std.proofs.lemmas.List.{append-nil, append_assoc}
 use Rattle.std.proofs.lemmas.List.Sums.{count_by-le-length, sum_by-cons}
+use Rattle.oid.specs.Arcs.{arc_limit, is_arc}
 use Rattle.oid.specs.Tree.{is_identifier}
 use Rattle.register.specs.Book.{Entry, Book, same, is_at, found, children}
 use Rattle.register.specs.Left.{used}
 use Rattle.register.specs.Calls.{Call}
 use Rattle.register.specs.Rulings.{Ruling, refuses, enters, turns, tells, book_after}
-use Rattle.register.specs.Questions.{Rules, ruling}
+use Rattle.register.specs.Questions.{Rules, ruling, after, after_all}
 use Rattle.register.specs.Founding.{Founding, most_quota, founding_refusal, root_entry, book_unless, founded}
 use Rattle.register.specs.Runs.{Sent, Back, Lines, made_by, back_at, after_made, Exchange, Serves, Runs, book_at_end}
-use Rattle.register.specs.Given.{Gift, given, ended, gifts, declines}
+use Rattle.register.specs.Given.{Gift, gift_in, decline_in, gifts, declines}
 use Rattle.register.specs.Law.{ByRule}
 use Rattle.register.proofs.Room.{RoomAlong}
 use Rattle.register.proofs.Rows.{chosen, found_identifier, found_all}
@@ -21,7 +22,8 @@ use Rattle.register.proofs.Shares.{share, used_is}
 use Rattle.register.proofs.Sound.{Sound, root_apart, is_declined_at}
 use Rattle.register.proofs.Entering.{enters_sound}
 use Rattle.register.proofs.Turning.{turns_sound}
-use Rattle.register.proofs.Ruled.{Says, is_declined, ruling_says}
+use Rattle.register.proofs.Changes.{is_declined}
+use Rattle.register.proofs.Ruled.{Says, ruling_says}
 use Rattle.register.proofs.Counting.{has_room}
 use Rattle.register.proofs.Telling.{gift_of, ended_of, Tells, sent_tells}
 use Rattle.register.proofs.Identified.{entered_parent}
@@ -49,15 +51,17 @@ module _ (founding : Founding) (rules : Rules) (book : Book) (before : List Gift
 
   -- an exchange keeps all of it
   pub exchange_sound : (lines : Lines) (exchange : Exchange) → Serves lines rules book exchange
-      → Sound founding exchange.book (before ++ cons_option (given lines exchange.sent exchange.back) []) (declined ++ cons_option (ended lines exchange.sent exchange.back) [])
+      → Sound founding exchange.book (before ++ cons_option (gift_in lines exchange.sent exchange.back) [])
+      (declined ++ cons_option (decline_in lines exchange.sent exchange.back) [])
   exchange_sound lines exchange served =
-      let same = ap (λ back. before ++ cons_option (given lines exchange.sent back) []) served.answered in
-      let ends = ap (λ back. declined ++ cons_option (ended lines exchange.sent back) []) served.answered in
+      let same = ap (λ back. before ++ cons_option (gift_in lines exchange.sent back) []) served.answered in
+      let ends = ap (λ back. declined ++ cons_option (decline_in lines exchange.sent back) []) served.answered in
       sound_at founding (sym served.leaves) (sym same) (sym ends)
       (go (made_by lines exchange.sent) (back_at lines rules book exchange.sent) (sent_tells rules book sound.identified lines exchange.sent))
     where
       go : (made : Option Call) (back : Back) → Tells rules book sound.identified lines exchange.sent made back
-          → Sound founding (after_made rules book made) (before ++ cons_option (given lines exchange.sent back) []) (declined ++ cons_option (ended lines exchange.sent back) [])
+          → Sound founding (after_made rules book made) (before ++ cons_option (gift_in lines exchange.sent back) [])
+          (declined ++ cons_option (decline_in lines exchange.sent back) [])
       go None back both =
           sound_at founding refl (ap (λ gift. before ++ cons_option gift []) (sym both.0)) (ap (λ end. declined ++ cons_option end []) (sym both.1)) none_sound
       go (Some call) back both =
@@ -95,15 +99,14 @@ module _ (founding : Founding) (rules : Rules) (lines : Lines) where
       subst (ByRule rules) (same_Some _ _ e) (record {
         arc = says.arc;
         identifier = says.identifier ∙ ap (λ giver. unwrap_or giver [] ++ says.arc ∷ []) (sym (entered_parent book sound.identified rules call entry says));
-        is_arc = says.asked.within;
-        in_set = says.asked.in_set;
+        by_rule = and_from (is_arc says.arc) _ (le-leb says.arc arc_limit says.asked.within) says.asked.in_set;
       })
   gift_by_rule book before declined sound call (refuses refusal) says gift e = absurd (none-some gift e)
   gift_by_rule book before declined sound call (turns t kind answer) says gift e = absurd (none-some gift e)
   gift_by_rule book before declined sound call (tells answer) says gift e = absurd (none-some gift e)
 
   given_by_rule : (book : Book) (before : List Gift) (declined : List (List ℕ)) → Sound founding book before declined
-      → (sent : Sent) (gift : Gift) → given lines sent (back_at lines rules book sent) ≡ Some gift → ByRule rules gift
+      → (sent : Sent) (gift : Gift) → gift_in lines sent (back_at lines rules book sent) ≡ Some gift → ByRule rules gift
   given_by_rule book before declined sound sent gift e = go (made_by lines sent) (sent_tells rules book sound.identified lines sent)
     where
       go : (made : Option Call) → Tells rules book sound.identified lines sent made (back_at lines rules book sent) → ByRule rules gift
@@ -120,8 +123,25 @@ module _ (founding : Founding) (rules : Rules) (lines : Lines) where
   run_by_rule book before declined [] sound runs = tt
   run_by_rule book before declined (exchange ∷ run) sound runs =
       cons_option_all (ByRule rules) _ (gifts lines run)
-      (λ gift e. given_by_rule book before declined sound exchange.sent gift (sym (ap (given lines exchange.sent) runs.0.answered) ∙ e))
+      (λ gift e. given_by_rule book before declined sound exchange.sent gift (sym (ap (gift_in lines exchange.sent) runs.0.answered) ∙ e))
       (run_by_rule exchange.book _ _ run (exchange_sound founding rules book before declined sound lines exchange runs.0) runs.1)
+
+-- some list of gifts, and one of what was declined, go with a book of which all holds
+pub record Holds (founding : Founding) (book : Book) : Type 0 where
+  pub gave : List Gift
+  pub declined : List (List ℕ)
+  pub sound : Sound founding book gave declined
+
+-- what holds of a book holds of it after calls
+pub calls_hold : (founding : Founding) (rules : Rules) (book : Book) (calls : List Call) → Holds founding book
+    → Holds founding (after_all rules book calls)
+calls_hold founding rules book [] holds = holds
+calls_hold founding rules book (call ∷ calls) holds =
+    calls_hold founding rules (after rules book call) calls (record {
+      gave = _;
+      declined = _;
+      sound = ruled_sound founding rules book holds.gave holds.declined holds.sound call (ruling rules book call) (ruling_says rules book call);
+    })
 
 -- a good founding's book
 pub good_book : (founding : Founding) → founding_refusal founding ≡ None → founded founding ≡ root_entry founding ∷ []

@@ -41,7 +41,8 @@ pub none_passes : {X : Type 0} (test : X → Bool) (xs : List X) → count_by te
 none_passes test [] none = tt
 none_passes test (x ∷ xs) none =
     let all = sum_by-cons (λ x. cond (test x) 1 0) x xs in (
-      chosen (test x) true false _ refl (λ passes _. let one = cond-true {A = ℕ} (test x) 1 0 passes in absurd (omega (arith, all, none, one))) (λ fails _. fails),
+      chosen (test x) true false _ refl
+          (λ passes _. let one = cond-true {A = ℕ} (test x) 1 0 passes in absurd (omega (arith, all, none, one))) (λ fails _. fails),
       none_passes test xs (omega (arith, all, none)),
     )
 
@@ -63,7 +64,8 @@ rows_found (row ∷ rows) apart =
   where
     apart_back : (other : Entry) → is_at row.identifier other ≡ false → is_at other.identifier row ≡ false
     apart_back other apart =
-        false_from_ne_true _ (λ here. both_ways _ apart (ap (λ identifier. same other.identifier identifier) (same_true _ _ here) ∙ same_itself other.identifier))
+        false_from_ne_true _ (λ here.
+        both_ways _ apart (ap (λ identifier. same other.identifier identifier) (same_true _ _ here) ∙ same_itself other.identifier))
 
 -- of a sum in which only the rows with one identifier count, the row that is found is all
 sum_found : (g : Entry → ℕ) (identifier : List ℕ) (book : Book) (entry : Entry) → found identifier book ≡ Some entry

@@ -6,18 +6,18 @@ use Rattle.register.specs.declared.refusal.Refusal.TheVariants.{NotInBook, NotIn
 use Rattle.register.specs.declared.founding.FoundingRefusal.{FoundingRefusal}
 use Rattle.register.specs.Book.{Book, found}
 use Rattle.register.specs.Calls.{Call, grant}
-use Rattle.register.specs.Rulings.{refuses, answer_of, book_after, standing}
-use Rattle.register.specs.Questions.{Rules, ruling, answer}
+use Rattle.register.specs.Rulings.{refuses, answer_of, book_after, there_is}
+use Rattle.register.specs.Questions.{Rules, ruling, answer, after_all}
 use Rattle.register.specs.Founding.{Founding, founding_refusal, root_entry, book_unless, founded}
 use Rattle.register.specs.Runs.{Sent, Lines, Exchange, Serves, Runs, made_by, back_at, after_made, book_at_end}
-use Rattle.register.specs.Given.{given, gifts}
+use Rattle.register.specs.Given.{gift_in, gifts}
 use Rattle.register.specs.Beneath.{by_grant, RefusedFoundings}
 use Rattle.register.proofs.Room.{HasRoom, RoomAlong}
 use Rattle.register.proofs.Telling.{gift_of, Tells, sent_tells}
 
 -- in the empty book nothing is found, which is what each call asks first
 ruling_when_empty : (rules : Rules) (call : Call) → ruling rules [] call ≡ refuses (cond (by_grant call) NotInHand NotInBook)
-unfolding found standing
+unfolding found there_is
 ruling_when_empty rules (grant holder o) = refl
 ruling_when_empty rules call = refl
 
@@ -37,10 +37,10 @@ module _ (lines : Lines) (rules : Rules) where
   empty_at_end book (exchange ∷ run) empty runs = empty_at_end exchange.book run (empty_after book exchange empty runs.0) runs.1
 
   -- nothing is given
-  none_given : (sent : Sent) → given lines sent (back_at lines rules [] sent) ≡ None
+  none_given : (sent : Sent) → gift_in lines sent (back_at lines rules [] sent) ≡ None
   none_given sent = go (made_by lines sent) (sent_tells rules [] tt lines sent)
     where
-      go : (made : Option Call) → Tells rules [] tt lines sent made (back_at lines rules [] sent) → given lines sent (back_at lines rules [] sent) ≡ None
+      go : (made : Option Call) → Tells rules [] tt lines sent made (back_at lines rules [] sent) → gift_in lines sent (back_at lines rules [] sent) ≡ None
       go None both = both.0
       go (Some call) both = both.0 ∙ ap gift_of (ruling_when_empty rules call)
 
@@ -48,7 +48,7 @@ module _ (lines : Lines) (rules : Rules) where
   empty_gives book [] empty runs = refl
   empty_gives book (exchange ∷ run) empty runs =
       ap (λ gift. cons_option gift (gifts lines run))
-      (ap (given lines exchange.sent) (runs.0.answered ∙ ap (λ book. back_at lines rules book exchange.sent) empty) ∙ none_given exchange.sent)
+      (ap (gift_in lines exchange.sent) (runs.0.answered ∙ ap (λ book. back_at lines rules book exchange.sent) empty) ∙ none_given exchange.sent)
       ∙ empty_gives exchange.book run (empty_after book exchange empty runs.0) runs.1
 
   -- and nobody has anything left
@@ -64,10 +64,12 @@ module _ (lines : Lines) (rules : Rules) where
 pub refused_book : (founding : Founding) (refusal : FoundingRefusal) → founding_refusal founding ≡ Some refusal → founded founding ≡ []
 refused_book founding refusal refused = ap (λ refusal. book_unless refusal (root_entry founding)) refused
 
+empty_after_all : (rules : Rules) (calls : List Call) → after_all rules [] calls ≡ []
+empty_after_all rules [] = refl
+empty_after_all rules (call ∷ calls) =
+    ap (λ book. after_all rules book calls) (ap (λ ruling. book_after ruling []) (ruling_when_empty rules call)) ∙ empty_after_all rules calls
+
 pub refused_foundings : RefusedFoundings
-refused_foundings founding refusal refused book reached = (empty, λ call. ap (λ book. answer founding.rules book call) empty ∙ ap answer_of (ruling_when_empty founding.rules call))
-  where
-    empty : book ≡ []
-    empty =
-        sym reached.leaves
-        ∙ empty_at_end reached.lines founding.rules (founded founding) reached.run (refused_book founding refusal refused) reached.runs
+refused_foundings founding refusal is calls =
+    let empty = ap (λ book. after_all founding.rules book calls) (refused_book founding refusal is) ∙ empty_after_all founding.rules calls in
+    (empty, λ call. ap (λ book. answer founding.rules book call) empty ∙ ap answer_of (ruling_when_empty founding.rules call))

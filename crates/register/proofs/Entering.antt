@@ -99,7 +99,8 @@ module _ (founding : Founding) (book : Book) (given : List Gift) (declined : Lis
         go : (there : Option Entry) → found entry.identifier book ≡ there → there ≡ None
         go None is = refl
         go (Some old) is =
-            let taken = taken_if entered.o entered.arc book old (giver_long book sound.identified rules call entry entered) (ap (λ identifier. found identifier book) (sym entered.identifier) ∙ is) in
+            let there = ap (λ identifier. found identifier book) (sym entered.identifier) ∙ is in
+            let taken = taken_if entered.o entered.arc book old (giver_long book sound.identified rules call entry entered) there in
             absurd (both_ways _ entered.asked.untaken taken)
 
     more-apart : (identifier : List ℕ) → count_by (is_at identifier) (book ++ entry ∷ []) ≤ 1
@@ -155,7 +156,8 @@ module _ (founding : Founding) (book : Book) (given : List Gift) (declined : Lis
       rest = sound.rest ++ entry ∷ [];
       is = ap (λ rows. rows ++ entry ∷ []) sound.is;
       apart = more-apart;
-      identified = all_push (λ row. is_identifier row.identifier ≡ true) book entry sound.identified (entered_identified book sound.identified rules call entry entered);
+      identified = all_push (λ row. is_identifier row.identifier ≡ true) book entry sound.identified
+          (entered_identified book sound.identified rules call entry entered);
       long = all_push (λ row. length founding.root ≤ length row.identifier) book entry sound.long (omega (arith, entry_long, giver_below));
       parents = all_push (HasParent (book ++ entry ∷ [])) sound.rest entry
           (all_weaker (HasParent book) (HasParent (book ++ entry ∷ [])) sound.rest (parent_before book entry) sound.parents)

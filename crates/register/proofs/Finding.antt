@@ -11,7 +11,7 @@ use Rattle.register.specs.Free.{in_set, untaken, free_arc}
 use Rattle.register.specs.Rulings.{Ruling}
 use Rattle.register.specs.Questions.{lowest_free, claimed}
 use Rattle.register.specs.declared.refusal.Refusal.TheVariants.{NoArc, ArcTaken}
-use Rattle.register.proofs.Asking.{ask-cong, standing-cong}
+use Rattle.register.proofs.Asking.{ask-cong, there_is-cong}
 
 -- the questions that find an arc among children, before those that follow
 abbrev pub Finder : Type 0
@@ -38,7 +38,7 @@ module _ (one other : Meaning) (same : SameArcs one.set other.set) where
 
   pub lowest_free-alike : FindAlike (lowest_free one) (lowest_free other)
   lowest_free-alike children others more follow =
-      standing-cong NoArc (free_arc one.set children) (free_arc other.set children) (free_arc-same children) (λ arc is. follow arc)
+      there_is-cong NoArc (free_arc one.set children) (free_arc other.set children) (free_arc-same children) (λ arc is. follow arc)
 
   pub claimed-alike : (arc : ℕ) → FindAlike (claimed one arc) (claimed other arc)
   claimed-alike arc children others more follow =

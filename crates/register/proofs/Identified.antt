@@ -21,7 +21,8 @@ module _ (book : Book) (identified : Identified book) where
   -- what is found has an identifier
   pub found_identified : (identifier : List ℕ) (entry : Entry) → found identifier book ≡ Some entry → is_identifier identifier ≡ true
   found_identified identifier entry e =
-      ap is_identifier (sym (found_identifier identifier book entry e)) ∙ found_all (λ row. is_identifier row.identifier ≡ true) identifier book entry identified e
+      ap is_identifier (sym (found_identifier identifier book entry e))
+      ∙ found_all (λ row. is_identifier row.identifier ≡ true) identifier book entry identified e
 
   module _ (rules : Rules) (call : Call) (entry : Entry) (entered : Entered rules book call entry) where
     pub giver_long : 2 ≤ length entered.o

@@ -1,7 +1,7 @@
 pub mod Identifiers
 pub mod Room
-pub mod Ruled
 pub mod Changes
+pub mod Ruled
 pub mod Rows
 pub mod Shares
 pub mod Identified
@@ -18,9 +18,12 @@ pub mod Touching
 pub mod Exchanges
 pub mod Neighbours
 pub mod OwnGrants
+pub mod GrantRows
+pub mod Serving
 pub mod Staying
 pub mod Empty
 pub mod Worked
+pub mod Edging
 pub mod Rolling
 pub mod Along
 pub mod Adding

@@ -1,4 +1,4 @@
--- A Grant that is the register's own for T does what the call named by T does.
+-- A Grant that is the register's own for T does what the calls do that name T.
 use Rattle.std.proofs.Common.{◌≡◌, ℕ, zero, suc, ◌<◌, true, false, List, [], ◌∷◌, length, Some, None, Option, get_or, arith, refl, sym, ap, ◌∙◌}
 use Rattle.std.proofs.lemmas.Bool.{cond-true, cond-false, eq-eqb}
 use Rattle.std.proofs.lemmas.Option.{cond_some, get_or_from_slice_get}
@@ -8,12 +8,14 @@ use Rattle.std.specs.Prelude.{◌==◌, position, slice_get, slice_set}
 use Rattle.std.specs.Option.{option_map, option_and_then}
 use Rattle.register.specs.declared.kind.Kind.{Kind}
 use Rattle.register.specs.declared.event.Event.{Event}
+use Rattle.register.specs.declared.event.Event.TheVariants.{AcceptGrant, DeclineGrant}
 use Rattle.register.specs.declared.refusal.Refusal.TheVariants.{NotInHand}
 use Rattle.register.specs.Kinds.{next_kind}
 use Rattle.register.specs.Book.{Entry, Book, is_at, found}
-use Rattle.register.specs.Rulings.{turned, turns, named, answer_of, book_after, standing}
-use Rattle.register.specs.Questions.{spending}
-use Rattle.register.specs.Grants.{with_next, answer_spent, book_spent, OwnGrants}
+use Rattle.register.specs.Rulings.{turned, turns, named, answer_of, book_after, there_is}
+use Rattle.register.specs.Calls.{Call, accept_grant, decline_grant}
+use Rattle.register.specs.Questions.{spending, answer, after}
+use Rattle.register.specs.Grants.{with_next, answer_spent, book_spent, DoesAs, OwnGrants}
 use Rattle.register.proofs.Identifiers.{same_true}
 
 -- the book with the kind of T's entry changed is the book with the first row of T written anew
@@ -39,7 +41,7 @@ spends_as_named : (t : List ℕ) (book : Book) (row : ℕ) (event : Event) → p
     → (thing : Option Entry) → slice_get book row ≡ thing
     → (answer_spent (option_and_then (with_next event) thing) ≡ answer_of (spending book t event))
     × (book_spent row (option_and_then (with_next event) thing) book ≡ book_after (spending book t event) book)
-unfolding standing
+unfolding there_is
 spends_as_named t book row event at None is = rw (found_in_row t book row at ∙ is) (refl, refl)
 spends_as_named t book row event at (Some entry) is = rw (found_in_row t book row at ∙ is) (go (next_kind entry.kind event))
   where
@@ -51,12 +53,21 @@ spends_as_named t book row event at (Some entry) is = rw (found_in_row t book ro
 
     go : (next : Option Kind)
         → (answer_spent (option_map (λ kind. record entry { kind = kind }) next)
-        ≡ answer_of (standing NotInHand next (λ kind. turns t kind (named t))))
+        ≡ answer_of (there_is NotInHand next (λ kind. turns t kind (named t))))
         × (book_spent row (option_map (λ kind. record entry { kind = kind }) next) book
-        ≡ book_after (standing NotInHand next (λ kind. turns t kind (named t))) book)
+        ≡ book_after (there_is NotInHand next (λ kind. turns t kind (named t))) book)
     go None = (refl, refl)
     go (Some kind) = (ap named (same_true entry.identifier t here), turned_in_row t kind book row entry is first.2 here)
 
 pub own_grants : OwnGrants
-own_grants serial book t grant event own =
-    rw (cond-true (grant.serial == serial) _ _ (eq-eqb _ _ own.serial_is)) (spends_as_named t book grant.row event own.row_is _ refl)
+own_grants rules serial book t grant own = (does AcceptGrant (accept_grant t) refl refl, does DeclineGrant (decline_grant t) refl refl)
+  where
+    does : (event : Event) (call : Call) → answer_of (spending book t event) ≡ answer rules book call
+        → book_after (spending book t event) book ≡ after rules book call → DoesAs rules serial book grant event call
+    does event call answered left =
+        let passes = cond-true (grant.serial == serial) (option_and_then (with_next event) (slice_get book grant.row)) None (eq-eqb _ _ own.its_serial) in
+        let same = spends_as_named t book grant.row event own.first _ refl in
+        record {
+          answers = ap answer_spent passes ∙ same.0 ∙ answered;
+          leaves = ap (λ entry. book_spent grant.row entry book) passes ∙ same.1 ∙ left;
+        }

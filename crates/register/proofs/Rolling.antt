@@ -1,14 +1,16 @@
 -- The list that a roll is answered with is what its words say.
-use Rattle.std.proofs.Common.{◌≡◌, ℕ, zero, suc, ◌<◌, ◌≤◌, Bool, true, false, cond, List, [], ◌∷◌, length, get_or, Some, nat_le, nat_lt, refl, sym, ap, ◌∙◌, arith}
+use Rattle.std.proofs.Common.{◌≡◌, ℕ, zero, suc, ◌<◌, ◌≤◌, Bool, true, false, cond, List, [], ◌∷◌, length, get_or, Some, None, Option, nat_le, nat_lt, refl, sym, ap, ◌∙◌, subst, arith}
 use Rattle.std.proofs.lemmas.Bool.{cond-true, cond-false, cond_both, ltb-true, ltb-false, eqb-true, eqb-false, leb-true, leb-false, eq-eqb, ne_eqb}
 use Rattle.std.proofs.lemmas.Option.{slice_get_within, get_or_from_slice_get}
 use Rattle.std.proofs.lemmas.List.Elements.{All-nil, All-cons, All-head, All-tail, All-weaker, All-filter, All-contains_itself, filter_passes}
 use Rattle.std.proofs.lemmas.List.Folds.{find_at}
 use Rattle.std.specs.Prelude.{⊤, find, filter, All, AllPairs, Contains, ◌==◌}
 use Rattle.std.specs.List.{position_or_len}
-use Rattle.register.specs.Book.{Entry, arc_of_child}
+use Rattle.register.specs.Book.{Entry, children, arc_of_child}
 use Rattle.register.specs.Order.{put, in_order, from_arc}
-use Rattle.register.specs.Rolls.{RollsInOrder}
+use Rattle.register.specs.Rolls.{InOrder, RollsInOrder}
+use Rattle.register.specs.Rulings.{Answer, listed, Ruling, answer_of, ask, there_is}
+use Rattle.register.specs.declared.refusal.Refusal.{Refusal}
 
 -- where a child is put: before the next, in its place, or further on
 put_cases : (Holds : List Entry → Type 0) (child next : Entry) (others : List Entry)
@@ -135,8 +137,8 @@ found_is_there test list one h =
     let there = sym (find_at test list) ∙ h in
     (place, slice_get_within list place one there, get_or_from_slice_get list place one one there)
 
-pub rolls_in_order : RollsInOrder
-rolls_in_order children from = record {
+ordered : (children : List Entry) (from : ℕ) → InOrder children from (from_arc from (in_order children))
+ordered children from = record {
   are_children = λ k d within. (
     All-filter above (Contains children) (in_order children) (all_in_order (Contains children) children (All-contains_itself children)) k d within,
     leb-true _ _ (filter_passes above (in_order children) k d within),
@@ -154,3 +156,27 @@ rolls_in_order children from = record {
   where
     above : Entry → Bool
     above child = nat_le from (arc_of_child child)
+
+-- what comes to a list was asked for it
+module _ (identifier : List ℕ) (shown : List Entry) where
+  asked_listed : (refusal : Refusal) (holds : Bool) (others : Ruling) → answer_of (ask refusal holds others) ≡ listed identifier shown
+      → answer_of others ≡ listed identifier shown
+  unfolding ask
+  asked_listed refusal true others e = e
+  asked_listed refusal false others e = absurd (cc)
+
+  there_listed : {A : Type 0} (refusal : Refusal) (thing : Option A) (others : A → Ruling) (told : Answer)
+      → ((a : A) → answer_of (others a) ≡ listed identifier shown → told ≡ listed identifier shown)
+      → answer_of (there_is refusal thing others) ≡ listed identifier shown → told ≡ listed identifier shown
+  unfolding there_is
+  there_listed refusal None others told onward e = absurd (cc)
+  there_listed refusal (Some a) others told onward e = onward a e
+
+pub rolls_in_order : RollsInOrder
+rolls_in_order rules book holder o from identifier shown e =
+    let all = from_arc from (in_order (children o book)) in
+    let is = there_listed identifier shown _ _ _ (listed o all) (λ authority asked.
+    asked_listed identifier shown _ _ _ (asked_listed identifier shown _ _ _ asked)) e in
+    let own : o ≡ identifier = cc in
+    let rolled : all ≡ shown = cc in
+    (sym own, subst (InOrder (children o book) from) rolled (ordered (children o book) from))

@@ -1,7 +1,6 @@
 -- Rows of a book: what is found, one entry more, and one entry of another kind.
 use Rattle.std.proofs.Common.{◌≡◌, ℕ, ◌≤◌, Bool, true, false, cond, List, [], ◌∷◌, ◌++◌, map, Some, None, Option, refl, sym, ap, ◌∙◌, subst, arith}
-use Rattle.std.specs.List.{sum_by, find, AllByRecursion}
-use Rattle.std.specs.Option.{option_map}
+use Rattle.std.specs.List.{sum_by, AllByRecursion}
 use Rattle.std.proofs.lemmas.Bool.{cond-true, cond-false}
 use Rattle.std.proofs.lemmas.Option.{none-some, same_Some}
 use Rattle.std.proofs.lemmas.List.Sums.{sum_by-cons}
@@ -76,22 +75,14 @@ pub all_of : {X : Type 0} (P : X → Type 0) → ((x : X) → P x) → (xs : Lis
 all_of P each [] = tt
 all_of P each (x ∷ xs) = (each x, all_of P each xs)
 
-pub all_both : {X : Type 0} (P Q R : X → Type 0) (xs : List X) → ((x : X) → P x → Q x → R x) → AllByRecursion P xs → AllByRecursion Q xs → AllByRecursion R xs
+pub all_both : {X : Type 0} (P Q R : X → Type 0) (xs : List X) → ((x : X) → P x → Q x → R x)
+    → AllByRecursion P xs → AllByRecursion Q xs → AllByRecursion R xs
 all_both P Q R [] both ps qs = tt
 all_both P Q R (x ∷ xs) both ps qs = (both x ps.0 qs.0, all_both P Q R xs both ps.1 qs.1)
 
 -- one entry of another kind
 abbrev pub of_kind : Kind → Entry → Entry
 of_kind kind entry = record entry { kind = kind }
-
-pub found_turned : (t : List ℕ) (kind : Kind) (book : Book) (entry : Entry) → found t book ≡ Some entry
-    → found t (turned t kind book) ≡ Some (of_kind kind entry)
-unfolding found turned
-found_turned t kind [] entry e = absurd (none-some entry e)
-found_turned t kind (row ∷ rows) entry e =
-    chosen (is_at t row) _ _ _ e
-    (λ here is. ap (λ v. find (is_at t) (cond v (of_kind kind row ∷ rows) (row ∷ turned t kind rows))) here ∙ cond-true _ _ _ here ∙ ap (λ o. option_map (of_kind kind) o) is)
-    (λ apart is. ap (λ v. find (is_at t) (cond v (of_kind kind row ∷ rows) (row ∷ turned t kind rows))) apart ∙ cond-false _ _ _ apart ∙ found_turned t kind rows entry is)
 
 -- a row that has the identifier is what is found, and the only one that is changed; and a row that has not is passed over
 pub turned_here : (t : List ℕ) (kind : Kind) (row : Entry) (rows : List Entry) → is_at t row ≡ true
@@ -105,16 +96,30 @@ unfolding found turned
 turned_behind t kind row rows apart = (cond-false _ _ _ apart, cond-false _ _ _ apart)
 
 -- by cases on whether a row has the identifier
-at_or_not : {P : Type 0} (t : List ℕ) (row : Entry) → (is_at t row ≡ true → P) → (is_at t row ≡ false → P) → P
+pub at_or_not : {P : Type 0} (t : List ℕ) (row : Entry) → (is_at t row ≡ true → P) → (is_at t row ≡ false → P) → P
 at_or_not t row here apart = chosen (is_at t row) true false _ refl (λ e _. here e) (λ e _. apart e)
 
 found_none : (identifier : List ℕ) → found identifier [] ≡ None
 unfolding found
 found_none identifier = refl
 
-turned_none : (t : List ℕ) (kind : Kind) → turned t kind [] ≡ []
+pub turned_none : (t : List ℕ) (kind : Kind) → turned t kind [] ≡ []
 unfolding turned
 turned_none t kind = refl
+
+-- what is found has the new kind
+pub found_turned : (t : List ℕ) (kind : Kind) (book : Book) (entry : Entry) → found t book ≡ Some entry
+    → found t (turned t kind book) ≡ Some (of_kind kind entry)
+found_turned t kind [] entry e = absurd (none-some entry (sym (found_none t) ∙ e))
+found_turned t kind (row ∷ rows) entry e =
+    at_or_not t row
+    (λ here.
+    let is = turned_here t kind row rows here in
+    ap (found t) is.0 ∙ (turned_here t kind (of_kind kind row) rows here).1
+    ∙ ap (λ entry. Some (of_kind kind entry)) (same_Some row entry (sym is.1 ∙ e)))
+    (λ apart.
+    let is = turned_behind t kind row rows apart in
+    ap (found t) is.0 ∙ (turned_behind t kind row (turned t kind rows) apart).1 ∙ found_turned t kind rows entry (sym is.1 ∙ e))
 
 -- the entries of other identifiers are found as before
 pub found_turned_other : (identifier t : List ℕ) (kind : Kind) (book : Book) → (identifier ≡ t → ⊥)

@@ -2,7 +2,6 @@
 use Rattle.std.proofs.Common.{◌≡◌, ℕ, ◌+◌, ◌≤◌, Bool, true, false, cond, not, List, [], ◌∷◌, ◌++◌, length, Some, None, Option, unwrap_or, ◌⊎◌, inl, inr, refl, sym, ap, ◌∙◌, subst, arith}
 use Rattle.std.specs.Bool.{⊤}
 use Rattle.std.proofs.lemmas.Bool.{leb-true, ltb-false, and_parts, not-true, both_ways}
-use Rattle.std.proofs.lemmas.Option.{none-some, same_Some}
 use Rattle.oid.specs.Arcs.{arc_limit, is_arc}
 use Rattle.oid.specs.Tree.{most_arcs, parent_of}
 use Rattle.arc_rules.specs.Sets.{ArcSet}
@@ -14,29 +13,21 @@ use Rattle.register.specs.Book.{Entry, Book, most_entries, found, children, is_t
 use Rattle.register.specs.Left.{counted, left}
 use Rattle.register.specs.Free.{untaken}
 use Rattle.register.specs.Calls.{Call, grant, claim, offer, accept, decline, retire, roll, collect, accept_grant, decline_grant, place_of}
-use Rattle.register.specs.Rulings.{Answer, refused, named, Ruling, refuses, enters, turns, tells, ask, standing}
-use Rattle.register.specs.Questions.{Rules, of_holder, lowest_free, claimed, giving, panel_below, offer_below, turning, spending, ruling}
-use Rattle.register.specs.Runs.{identifier_in, answers}
+use Rattle.register.specs.Rulings.{Answer, refused, named, Ruling, refuses, enters, turns, tells, ask, there_is}
+use Rattle.register.specs.Questions.{Rules, as_holder, lowest_free, claimed, giving, panel_below, offer_below, turning, spending, ruling}
+use Rattle.register.specs.Runs.{identifier_in, by_call}
 use Rattle.register.specs.Given.{Gift, gift_by, declined_by}
-use Rattle.register.specs.Law.{set_for}
+use Rattle.register.specs.Law.{set_for, quota_in}
 use Rattle.register.specs.declared.kind.Kind.{Kind}
-use Rattle.register.specs.declared.kind.Kind.TheVariants.{Panel, Offered, InHand, Declined}
 use Rattle.register.specs.declared.event.Event.{Event}
 use Rattle.register.specs.declared.event.Event.TheVariants.{Accept, Decline, Retire, Collect, AcceptGrant, DeclineGrant}
+use Rattle.register.proofs.Changes.{is_declined, declines_by, change}
 use Rattle.register.specs.declared.refusal.Refusal.{Refusal}
 use Rattle.register.specs.declared.refusal.Refusal.TheVariants.{BookFull}
 
-abbrev pub is_declined : Kind → Bool
-is_declined Declined = true
-is_declined kind = false
-
--- what an entry's offer was, whatever became of it
-abbrev pub offered_with : Entry → Option ℕ
-offered_with entry = cond (is_authority entry.kind) (Some entry.quota) None
-
 -- the gift by which an entry came into the book, as the entry itself tells it
 abbrev pub row_gift : Entry → Gift
-row_gift entry = record { giver = unwrap_or (parent_of entry.identifier) []; identifier = entry.identifier; offered = offered_with entry }
+row_gift entry = record { giver = unwrap_or (parent_of entry.identifier) []; identifier = entry.identifier; offered = quota_in entry }
 
 -- what is known when an arc was found below an authority, of which so much is needed, by a rule with such a set
 pub record Asked (book : Book) (o : List ℕ) (needed : ℕ) (set : ArcSet) (authority : Entry) (arc : ℕ) : Type 0 where
@@ -53,12 +44,12 @@ pub record Entered (rules : Rules) (book : Book) (call : Call) (entry : Entry) :
   pub o : List ℕ
   pub authority : Entry
   pub arc : ℕ
-  pub asked : Asked book o (counted entry) (set_for rules (offered_with entry)) authority arc
+  pub asked : Asked book o (counted entry) (set_for rules (quota_in entry)) authority arc
   pub identifier : entry.identifier ≡ o ++ arc ∷ []
   pub undeclined : is_declined entry.kind ≡ false
   pub holder : is_authority entry.kind ≡ false → entry.holder ≡ authority.holder
   pub placed : place_of call ≡ Some o
-  pub gift : (identifier : List ℕ) → gift_by call identifier ≡ Some (record { giver = o; identifier = identifier; offered = offered_with entry })
+  pub gift : (identifier : List ℕ) → gift_by call identifier ≡ Some (record { giver = o; identifier = identifier; offered = quota_in entry })
   pub ends : declined_by call ≡ None
 
 -- what is known of an entry whose kind is changed
@@ -70,7 +61,7 @@ pub record Turned (book : Book) (call : Call) (t : List ℕ) (kind : Kind) (answ
   pub placed : place_of call ≡ parent_of t
   pub gift : (identifier : List ℕ) → gift_by call identifier ≡ None
   pub ends : declined_by call ≡ cond (is_declined kind) (Some t) None
-  pub says : (identifier_in (answers answer) ≡ None) ⊎ (identifier_in (answers answer) ≡ Some t)
+  pub says : (identifier_in (by_call answer) ≡ None) ⊎ (identifier_in (by_call answer) ≡ Some t)
   pub names : is_declined kind ≡ true → answer ≡ named t
   pub granted : (refusal : Refusal) → answer ≡ refused refusal → ⊥
 
@@ -81,7 +72,7 @@ pub record Told (book : Book) (call : Call) (answer : Answer) : Type 0 where
   pub here : found o book ≡ Some authority
   pub gift : (identifier : List ℕ) → gift_by call identifier ≡ None
   pub ends : declined_by call ≡ None
-  pub says : identifier_in (answers answer) ≡ Some o
+  pub says : identifier_in (by_call answer) ≡ Some o
 
 -- what is known of a book that is said to be full: it is, and an open authority has something left
 pub record Full (book : Book) : Type 0 where
@@ -104,21 +95,6 @@ Says rules book call (enters entry) = Entered rules book call entry
 Says rules book call (turns t kind answer) = Turned book call t kind answer
 Says rules book call (tells answer) = Told book call answer
 
--- the events that decline
-abbrev declines_by : Event → Bool
-declines_by Decline = true
-declines_by DeclineGrant = true
-declines_by event = false
-
-next_declined : (old : Kind) (event : Event) (kind : Kind) → next_kind old event ≡ Some kind → is_declined kind ≡ declines_by event
-next_declined Offered Accept kind e = ap is_declined (sym (same_Some _ _ e))
-next_declined Offered Decline kind e = ap is_declined (sym (same_Some _ _ e))
-next_declined Offered Collect kind e = ap is_declined (sym (same_Some _ _ e))
-next_declined InHand AcceptGrant kind e = ap is_declined (sym (same_Some _ _ e))
-next_declined InHand DeclineGrant kind e = ap is_declined (sym (same_Some _ _ e))
-next_declined Panel Retire kind e = ap is_declined (sym (same_Some _ _ e))
-next_declined old event kind e = absurd (none-some kind e)
-
 module _ (rules : Rules) (book : Book) (call : Call) where
   -- what is known behind a question is known of what the questions come to
   ask_says : (refusal : Refusal) (holds : Bool) (others : Ruling) → (holds ≡ false → SaysNo book refusal)
@@ -127,17 +103,17 @@ module _ (rules : Rules) (book : Book) (call : Call) where
   ask_says refusal true others otherwise known = known refl
   ask_says refusal false others otherwise known = otherwise refl
 
-  standing_says : {A : Type 0} (refusal : Refusal) (thing : Option A) (others : A → Ruling) → SaysNo book refusal
-      → ((a : A) → thing ≡ Some a → Says rules book call (others a)) → Says rules book call (standing refusal thing others)
-  unfolding standing
-  standing_says refusal None others otherwise known = otherwise
-  standing_says refusal (Some a) others otherwise known = known a refl
+  there_is_says : {A : Type 0} (refusal : Refusal) (thing : Option A) (others : A → Ruling) → SaysNo book refusal
+      → ((a : A) → thing ≡ Some a → Says rules book call (others a)) → Says rules book call (there_is refusal thing others)
+  unfolding there_is
+  there_is_says refusal None others otherwise known = otherwise
+  there_is_says refusal (Some a) others otherwise known = known a refl
 
-  of_holder_says : (holder : ℕ) (o : List ℕ) (others : Entry → Ruling)
+  as_holder_says : (holder : ℕ) (o : List ℕ) (others : Entry → Ruling)
       → ((authority : Entry) → found o book ≡ Some authority → is_open authority.kind ≡ true → Says rules book call (others authority))
-      → Says rules book call (of_holder book holder o others)
-  of_holder_says holder o others known =
-      standing_says _ _ _ tt (λ authority here. ask_says _ _ _ (λ _. tt) (λ opened. ask_says _ _ _ (λ _. tt) (λ _. known authority here opened)))
+      → Says rules book call (as_holder book holder o others)
+  as_holder_says holder o others known =
+      there_is_says _ _ _ tt (λ authority here. ask_says _ _ _ (λ _. tt) (λ opened. ask_says _ _ _ (λ _. tt) (λ _. known authority here opened)))
 
   -- the arc of a gift is one of the set that no child has, however it is found
   abbrev Finds : ArcSet → (List Entry → (ℕ → Ruling) → Ruling) → Type 0
@@ -146,7 +122,7 @@ module _ (rules : Rules) (book : Book) (call : Call) where
       → Says rules book call (find_arc siblings others)
 
   lowest_finds : (rule : Meaning) → Finds rule.set (lowest_free rule)
-  lowest_finds rule siblings others known = standing_says _ _ _ tt (λ arc e. go arc (subst (IsLowest (untaken rule.set siblings) 0) e (search_is_lowest _ 0)))
+  lowest_finds rule siblings others known = there_is_says _ _ _ tt (λ arc e. go arc (subst (IsLowest (untaken rule.set siblings) 0) e (search_is_lowest _ 0)))
     where
       go : (arc : ℕ) → IsLowest (untaken rule.set siblings) 0 (Some arc) → Says rules book call (others arc)
       go arc lowest =
@@ -164,7 +140,7 @@ module _ (rules : Rules) (book : Book) (call : Call) where
       → ((authority : Entry) (arc : ℕ) → Asked book o needed set authority arc → Entered rules book call (made authority arc))
       → Says rules book call (giving book holder o needed find_arc made)
   giving_says set holder o needed find_arc made some finds entered =
-      of_holder_says holder o _ (λ authority here opened.
+      as_holder_says holder o _ (λ authority here opened.
       ask_says _ _ _ (λ _. tt) (λ short. ask_says _ _ _ (λ _. tt) (λ enough.
       finds (children o book) _ (λ arc within in_set untaken.
       ask_says _ _ _ (λ full. record {
@@ -190,13 +166,13 @@ module _ (rules : Rules) (book : Book) (call : Call) where
       → Turned book call t kind (answer entry))
       → Says rules book call (turning book t event by_right answer)
   turning_says t event by_right answer known =
-      standing_says _ _ _ tt (λ entry here. standing_says _ _ _ tt (λ kind next. ask_says _ _ _ (λ _. tt) (λ _. known entry kind here next)))
+      there_is_says _ _ _ tt (λ entry here. there_is_says _ _ _ tt (λ kind next. ask_says _ _ _ (λ _. tt) (λ _. known entry kind here next)))
 
   spending_says : (t : List ℕ) (event : Event)
       → ((entry : Entry) (kind : Kind) → found t book ≡ Some entry → next_kind entry.kind event ≡ Some kind
       → Turned book call t kind (named t))
       → Says rules book call (spending book t event)
-  spending_says t event known = standing_says _ _ _ tt (λ entry here. standing_says _ _ _ tt (λ kind next. known entry kind here next))
+  spending_says t event known = there_is_says _ _ _ tt (λ entry here. there_is_says _ _ _ tt (λ kind next. known entry kind here next))
 
 -- a panel that is entered
 panel_entered : (rules : Rules) (book : Book) (call : Call) (o : List ℕ) (authority : Entry) (arc : ℕ) → place_of call ≡ Some o
@@ -237,13 +213,13 @@ ByEvent call t event = (place_of call ≡ parent_of t) × ((identifier : List �
     × (declined_by call ≡ cond (declines_by event) (Some t) None)
 
 turned_by : (book : Book) (call : Call) (t : List ℕ) (event : Event) → ByEvent call t event → (answer : Entry → Answer)
-    → ((entry : Entry) → (identifier_in (answers (answer entry)) ≡ None) ⊎ (identifier_in (answers (answer entry)) ≡ Some t))
+    → ((entry : Entry) → (identifier_in (by_call (answer entry)) ≡ None) ⊎ (identifier_in (by_call (answer entry)) ≡ Some t))
     → ((entry : Entry) → declines_by event ≡ true → answer entry ≡ named t)
     → ((entry : Entry) (refusal : Refusal) → answer entry ≡ refused refusal → ⊥)
     → (entry : Entry) (kind : Kind) → found t book ≡ Some entry → next_kind entry.kind event ≡ Some kind
     → Turned book call t kind (answer entry)
 turned_by book call t event by answer says names granted entry kind here next =
-    let declined = next_declined entry.kind event kind next in
+    let declined = (change entry.kind event kind next).declined in
     record {
       entry = entry;
       event = event;
@@ -282,7 +258,7 @@ ruling_says rules book (collect taker t) =
 ruling_says rules book (accept_grant t) = spending_says rules book _ t AcceptGrant (turned_named book _ t AcceptGrant (refl, (λ _. refl), refl))
 ruling_says rules book (decline_grant t) = spending_says rules book _ t DeclineGrant (turned_named book _ t DeclineGrant (refl, (λ _. refl), refl))
 ruling_says rules book (roll holder o from) =
-    of_holder_says rules book _ holder o _ (λ authority here _. record {
+    as_holder_says rules book _ holder o _ (λ authority here _. record {
       o = o;
       authority = authority;
       here = here;

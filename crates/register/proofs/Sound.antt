@@ -12,7 +12,8 @@ use Rattle.register.specs.Given.{Gift}
 use Rattle.register.proofs.Identifiers.{child_true, parent_some}
 use Rattle.register.proofs.Rows.{chosen}
 use Rattle.register.proofs.Shares.{share}
-use Rattle.register.proofs.Ruled.{row_gift, is_declined}
+use Rattle.register.proofs.Changes.{is_declined}
+use Rattle.register.proofs.Ruled.{row_gift}
 use Rattle.register.proofs.Identified.{Identified}
 
 abbrev pub is_declined_at : Option Entry → Bool

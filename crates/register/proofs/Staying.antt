@@ -1,31 +1,19 @@
--- No entry is ever removed, in any run from any book.
-use Rattle.std.proofs.Common.{◌≡◌, ℕ, ◌⊎◌, inl, inr, true, false, List, [], ◌∷◌, Some, None, Option, refl, sym, ap, ◌∙◌}
+-- No entry is ever removed, by any calls at any book.
+use Rattle.std.proofs.Common.{◌≡◌, ℕ, ◌⊎◌, inl, inr, true, false, List, [], ◌∷◌, Some, refl, sym, ap, ◌∙◌}
 use Rattle.std.proofs.lemmas.Bool.{both_ways}
 use Rattle.std.proofs.lemmas.Option.{same_Some}
 use Rattle.register.specs.declared.kind.Kind.{Kind}
 use Rattle.register.specs.declared.kind.Kind.TheVariants.{Panel, Retired, Offered, InHand, Open, Declined}
-use Rattle.register.specs.declared.event.Event.{Event}
-use Rattle.register.specs.declared.event.Event.TheVariants.{Accept, Decline, Retire, Collect, AcceptGrant, DeclineGrant}
 use Rattle.register.specs.Kinds.{next_kind}
 use Rattle.register.specs.Book.{Entry, Book, same, found}
 use Rattle.register.specs.Calls.{Call}
 use Rattle.register.specs.Rulings.{Ruling, refuses, enters, turns, tells, turned, book_after}
-use Rattle.register.specs.Questions.{Rules, ruling}
-use Rattle.register.specs.Runs.{made_by, after_made}
+use Rattle.register.specs.Questions.{Rules, ruling, after}
 use Rattle.register.specs.Beneath.{may_become, Becomes, EntriesStay}
 use Rattle.register.proofs.Identifiers.{same_true, same_itself}
 use Rattle.register.proofs.Rows.{chosen, of_kind, found_before, found_turned, found_turned_other}
+use Rattle.register.proofs.Changes.{change}
 use Rattle.register.proofs.Ruled.{Says, ruling_says}
-
--- what a call makes of a kind, the kind may become
-next_may_become : (kind : Kind) (event : Event) (next : Kind) → next_kind kind event ≡ Some next → may_become kind next ≡ true
-next_may_become Panel Retire Retired h = refl
-next_may_become Offered Accept Open h = refl
-next_may_become Offered Decline Declined h = refl
-next_may_become Offered Collect InHand h = refl
-next_may_become InHand AcceptGrant Open h = refl
-next_may_become InHand DeclineGrant Declined h = refl
-next_may_become kind event next h = cc
 
 -- a kind that may become another in two changes may become it
 twice_may_become : (one two three : Kind) → may_become one two ≡ true → may_become two three ≡ true → may_become one three ≡ true
@@ -74,23 +62,15 @@ stays_after rules book call (turns t kind answer) says identifier entry there =
     let next = ap (λ entry. next_kind entry.kind says.event) (sym one) ∙ says.next in (
       of_kind kind entry,
       ap (λ identifier. found identifier (turned t kind book)) is ∙ found_turned t kind book entry here,
-      record { identifier = refl; holder = refl; quota = refl; kind = inr (next_may_become entry.kind says.event kind next) },
+      record { identifier = refl; holder = refl; quota = refl; kind = inr (change entry.kind says.event kind next).becomes },
     ))
     (λ other _.
     let apart = λ (is : identifier ≡ t). both_ways _ other (ap (same identifier) (sym is) ∙ same_itself identifier) in
     (entry, found_turned_other identifier t kind book apart ∙ there, unchanged entry))
 
-stays_after_made : (rules : Rules) (book : Book) (made : Option Call) (identifier : List ℕ) (entry : Entry) → found identifier book ≡ Some entry
-    → Stays identifier entry (after_made rules book made)
-stays_after_made rules book None identifier entry there = (entry, there, unchanged entry)
-stays_after_made rules book (Some call) identifier entry there =
-    stays_after rules book call (ruling rules book call) (ruling_says rules book call) identifier entry there
-
 pub entries_stay : EntriesStay
-entries_stay lines rules book [] runs identifier entry there = (entry, there, unchanged entry)
-entries_stay lines rules book (exchange ∷ run) runs identifier entry there =
-    let next : Stays identifier entry exchange.book =
-    rw runs.0.leaves (stays_after_made rules book (made_by lines exchange.sent) identifier entry there)
-    in
-    let later = entries_stay lines rules exchange.book run runs.1 identifier next.0 next.1 in
+entries_stay rules book [] identifier entry there = (entry, there, unchanged entry)
+entries_stay rules book (call ∷ calls) identifier entry there =
+    let next = stays_after rules book call (ruling rules book call) (ruling_says rules book call) identifier entry there in
+    let later = entries_stay rules (after rules book call) calls identifier next.0 next.1 in
     (later.0, later.1, becomes_twice entry next.0 later.0 next.2 later.2)

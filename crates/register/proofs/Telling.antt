@@ -8,10 +8,12 @@ use Rattle.register.specs.Book.{Book}
 use Rattle.register.specs.Calls.{Call, collect, accept_grant, decline_grant}
 use Rattle.register.specs.Rulings.{Ruling, refuses, enters, turns, tells, answer_of}
 use Rattle.register.specs.Questions.{Rules, answer, ruling}
-use Rattle.register.specs.Runs.{Sent, line, collects, accepts_grant, declines_grant, Back, too_short, written, unread, answers, identifier_in, Lines, made_by, line_answer, handed_back, back_at}
-use Rattle.register.specs.Given.{Gift, gift_by, declined_by, given, ended}
+use Rattle.register.specs.Runs.{Sent, line, collects, accepts_grant, declines_grant, Back, too_short, written, unread, by_call, identifier_in, Lines, made_by, line_answer, handed_back, back_at}
+use Rattle.register.specs.Given.{Gift, gift_by, declined_by, gift_in, decline_in}
+use Rattle.register.specs.Law.{quota_in}
 use Rattle.register.proofs.Rows.{chosen}
-use Rattle.register.proofs.Ruled.{Says, is_declined, offered_with, row_gift, ruling_says}
+use Rattle.register.proofs.Changes.{is_declined}
+use Rattle.register.proofs.Ruled.{Says, row_gift, ruling_says}
 use Rattle.register.proofs.Identified.{Identified, found_identified, entered_parent, entered_identified}
 
 -- what a ruling gives, and what it declines
@@ -36,16 +38,16 @@ and_none None = refl
 and_none (Some x) = refl
 
 ended_is : (rules : Rules) (book : Book) (call : Call) (r : Ruling) → Says rules book call r
-    → option_and (identifier_in (answers (answer_of r))) (declined_by call) ≡ ended_of r
+    → option_and (identifier_in (by_call (answer_of r))) (declined_by call) ≡ ended_of r
 ended_is rules book call (refuses refusal) says = refl
 ended_is rules book call (enters entry) says = says.ends
-ended_is rules book call (tells answer) says = ap (option_and (identifier_in (answers answer))) says.ends ∙ ap (λ o. option_and o None) says.says
+ended_is rules book call (tells answer) says = ap (option_and (identifier_in (by_call answer))) says.ends ∙ ap (λ o. option_and o None) says.says
 ended_is rules book call (turns t kind answer) says =
     chosen (is_declined kind) true false _ refl
-    (λ declined _. ap (λ answer. option_and (identifier_in (answers answer)) (declined_by call)) (says.names declined) ∙ says.ends)
+    (λ declined _. ap (λ answer. option_and (identifier_in (by_call answer)) (declined_by call)) (says.names declined) ∙ says.ends)
     (λ kept _.
     let nothing = says.ends ∙ cond-false _ _ _ kept in
-    ap (option_and (identifier_in (answers answer))) nothing ∙ and_none (identifier_in (answers answer)) ∙ sym (cond-false _ _ _ kept))
+    ap (option_and (identifier_in (by_call answer))) nothing ∙ and_none (identifier_in (by_call answer)) ∙ sym (cond-false _ _ _ kept))
 
 ended_none : (rules : Rules) (book : Book) (call : Call) (r : Ruling) → Says rules book call r → declined_by call ≡ None → ended_of r ≡ None
 ended_none rules book call (refuses refusal) says none = refl
@@ -55,30 +57,31 @@ ended_none rules book call (tells answer) says none = refl
 
 -- a Grant's decline that is done has ended its entry, and no other
 spent_is : (rules : Rules) (book : Book) (t : List ℕ) (lines : Lines) (r : Ruling) → Says rules book (decline_grant t) r
-    → ended lines (declines_grant t) (handed_back (answer_of r)) ≡ ended_of r
+    → decline_in lines (declines_grant t) (handed_back (answer_of r)) ≡ ended_of r
 spent_is rules book t lines (refuses refusal) says = refl
 spent_is rules book t lines (enters entry) says = absurd (none-some _ (sym says.ends))
 spent_is rules book t lines (tells answer) says = absurd (none-some _ (sym says.ends))
 spent_is rules book t lines (turns other kind answer) says =
     chosen (is_declined kind) true false _ refl
-    (λ declined _. ap (λ answer. ended lines (declines_grant t) (handed_back answer)) (says.names declined) ∙ says.ends)
+    (λ declined _. ap (λ answer. decline_in lines (declines_grant t) (handed_back answer)) (says.names declined) ∙ says.ends)
     (λ kept _. absurd (none-some _ (sym (says.ends ∙ cond-false _ _ _ kept))))
 
 -- At a book whose entries all have identifiers:
 module _ (rules : Rules) (book : Book) (identified : Identified book) where
   -- a ruling that gives has said so
-  gift_is : (call : Call) (r : Ruling) → Says rules book call r → option_and_then (gift_by call) (identifier_in (answers (answer_of r))) ≡ gift_of r
+  gift_is : (call : Call) (r : Ruling) → Says rules book call r → option_and_then (gift_by call) (identifier_in (by_call (answer_of r))) ≡ gift_of r
   gift_is call (refuses refusal) says = refl
   gift_is call (enters entry) says =
       let parent = entered_parent book identified rules call entry says in
       says.gift entry.identifier
-      ∙ ap (λ giver. Some (record { giver = unwrap_or giver []; identifier = entry.identifier; offered = offered_with entry })) (sym parent)
+      ∙ ap (λ giver. Some (record { giver = unwrap_or giver []; identifier = entry.identifier; offered = quota_in entry })) (sym parent)
   gift_is call (turns t kind answer) says =
       ⊎_elim (λ none. ap (option_and_then (gift_by call)) none) (λ some. ap (option_and_then (gift_by call)) some ∙ says.gift t) says.says
   gift_is call (tells answer) says = ap (option_and_then (gift_by call)) says.says ∙ says.gift says.o
 
   -- the identifier in an answer is one
-  identifier_is : (call : Call) (r : Ruling) → Says rules book call r → ForSome (identifier_in (answers (answer_of r))) (λ identifier. is_identifier identifier ≡ true)
+  identifier_is : (call : Call) (r : Ruling) → Says rules book call r
+      → ForSome (identifier_in (by_call (answer_of r))) (λ identifier. is_identifier identifier ≡ true)
   identifier_is call (refuses refusal) says = λ identifier e. absurd (none-some identifier e)
   identifier_is call (enters entry) says = λ identifier e.
       ap is_identifier (sym (same_Some _ _ e)) ∙ entered_identified book identified rules call entry says
@@ -91,24 +94,24 @@ module _ (rules : Rules) (book : Book) (identified : Identified book) where
   -- what comes back of something sent tells what its ruling gave and declined; where no call was made, nothing
   module _ (lines : Lines) (sent : Sent) where
     abbrev pub Tells : Option Call → Back → Type 0
-    Tells None back = (given lines sent back ≡ None) × (ended lines sent back ≡ None)
-    Tells (Some call) back = (given lines sent back ≡ gift_of (ruling rules book call)) × (ended lines sent back ≡ ended_of (ruling rules book call))
+    Tells None back = (gift_in lines sent back ≡ None) × (decline_in lines sent back ≡ None)
+    Tells (Some call) back = (gift_in lines sent back ≡ gift_of (ruling rules book call)) × (decline_in lines sent back ≡ ended_of (ruling rules book call))
 
   line_tells : (lines : Lines) (bytes : List ℕ) (page : ℕ) (roomy : Bool) (call : Option Call) → lines.has_room page ≡ roomy → lines.call_of bytes ≡ call
       → Tells lines (line bytes page) (cond roomy call None)
       (cond roomy (written (lines.bytes_of bytes page (line_answer (option_map (answer rules book) call)))) too_short)
   line_tells lines bytes page false call room is = (refl, refl)
   line_tells lines bytes page true None room is = (
-    ap (option_and_then (λ call. option_and_then (gift_by call) (lines.read_back (lines.bytes_of bytes page unread)))) is,
-    ap (λ call. option_and (lines.read_back (lines.bytes_of bytes page unread)) (option_and_then declined_by call)) is ∙ and_none _,
+    ap (option_and_then (λ call. option_and_then (gift_by call) (lines.recover (lines.bytes_of bytes page unread)))) is,
+    ap (λ call. option_and (lines.recover (lines.bytes_of bytes page unread)) (option_and_then declined_by call)) is ∙ and_none _,
   )
   line_tells lines bytes page true (Some call) room is =
       let r = ruling rules book call in
       let says = ruling_says rules book call in
-      let read = lines.reads_back bytes page (answers (answer_of r)) room (identifier_is call r says) in (
-        ap (option_and_then (λ call. option_and_then (gift_by call) (lines.read_back (lines.bytes_of bytes page (answers (answer_of r)))))) is
+      let read = lines.recovers bytes page (by_call (answer_of r)) room (identifier_is call r says) in (
+        ap (option_and_then (λ call. option_and_then (gift_by call) (lines.recover (lines.bytes_of bytes page (by_call (answer_of r)))))) is
             ∙ ap (option_and_then (gift_by call)) read ∙ gift_is call r says,
-        ap (λ call. option_and (lines.read_back (lines.bytes_of bytes page (answers (answer_of r)))) (option_and_then declined_by call)) is
+        ap (λ call. option_and (lines.recover (lines.bytes_of bytes page (by_call (answer_of r)))) (option_and_then declined_by call)) is
             ∙ ap (λ o. option_and o (declined_by call)) read ∙ ended_is rules book call r says,
       )
 

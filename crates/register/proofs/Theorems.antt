@@ -8,26 +8,26 @@ use Rattle.register.specs.Kinds.{is_authority}
 use Rattle.std.proofs.lemmas.List.Elements.{All-nil, All-from_recursion}
 use Rattle.oid.specs.Tree.{is_identifier, parent_of}
 use Rattle.oid.proofs.Tree.{some_arcs}
-use Rattle.register.specs.Book.{Entry, Book, is_at, found, parent_in}
+use Rattle.register.specs.Book.{Entry, Book, is_at, found}
 use Rattle.register.specs.Left.{told_left}
 use Rattle.register.specs.Founding.{Founding, founding_refusal, root_entry, founded}
-use Rattle.register.specs.Runs.{answers, identifier_in, Lines, Exchange, Runs}
-use Rattle.register.specs.Given.{Gift, gifts, declines}
-use Rattle.register.specs.Law.{Start, at_founding, Alike, sent_elsewhere, SameElsewhere, ByRule, Law, EveryRun}
+use Rattle.register.specs.Runs.{by_call, identifier_in, Lines, Exchange, Runs}
+use Rattle.register.specs.Given.{gifts}
+use Rattle.register.specs.Law.{Start, at_founding, quota_of, Alike, sent_elsewhere, SameElsewhere, ByRule, Law, EveryRun}
 use Rattle.register.specs.Calls.{Call}
 use Rattle.register.specs.Rulings.{refused, Ruling, refuses, enters, turns, tells, answer_of}
-use Rattle.register.specs.Questions.{Rules, ruling, answer}
-use Rattle.register.specs.Beneath.{Reached, GoodFoundings, PanelsHolders}
+use Rattle.register.specs.Questions.{Rules, ruling, answer, after_all}
+use Rattle.register.specs.Beneath.{GoodFoundings, HasParentsHolder, PanelsHolders, EntriesApart}
 use Rattle.register.specs.declared.refusal.Refusal.TheVariants.{BookFull}
 use Rattle.register.specs.declared.founding.FoundingRefusal.{FoundingRefusal}
 use Rattle.register.proofs.Room.{HasRoom, RoomAlong}
 use Rattle.register.proofs.Neighbours.{neighbours}
 use Rattle.register.proofs.Ruled.{Says, ruling_says}
-use Rattle.register.proofs.Sound.{Sound, HasParent}
-use Rattle.register.proofs.Along.{sound_at, run_sound, run_room, run_by_rule, good_book, good_quota, founded_sound}
+use Rattle.register.proofs.Sound.{HasParent}
+use Rattle.register.proofs.Along.{run_sound, run_room, run_by_rule, Holds, calls_hold, good_book, good_quota, founded_sound}
 use Rattle.register.proofs.Empty.{refused_foundings, refused_book, empty_at_end, empty_gives, empty_roomy}
 use Rattle.register.proofs.Counting.{adds_up, has_room}
-use Rattle.register.proofs.Adding.{found_first, quotas, once}
+use Rattle.register.proofs.Adding.{found_first, told, quotas, once, pairs_apart}
 use Rattle.register.proofs.Rows.{chosen, found_identifier, found_all}
 
 -- neighbours are unfelt where there is room along both runs
@@ -57,6 +57,7 @@ good_law lines founding identifier good run runs =
       given_once = once founding _ _ _ sound;
       given_by_rule = All-from_recursion (ByRule founding.rules) (gifts lines run)
           (run_by_rule founding founding.rules lines (founded founding) [] [] run start runs);
+      quotas_told = told founding _ _ _ sound (good_book founding good);
       quotas_add_up = quotas founding _ _ _ sound (good_book founding good);
     }
 
@@ -67,6 +68,10 @@ nothing_found identifier = refl
 nobody : (authority : List ℕ) (left : ℕ) → told_left authority [] ≡ Ok left → ⊥
 unfolding found
 nobody authority left told = cc
+
+no_quota : (founding : Founding) (authority : List ℕ) → quota_of (record { rules = founding.rules; book = []; given_before = [] }) [] authority ≡ None
+unfolding found
+no_quota founding authority = refl
 
 -- from a refused one
 refused_law : (lines : Lines) (founding : Founding) (refusal : FoundingRefusal) → founding_refusal founding ≡ Some refusal
@@ -79,8 +84,13 @@ refused_law lines founding refusal is run runs =
           unfelt lines founding other alike x is_x run others runs others_run
           (empty_roomy lines founding.rules (founded founding) run start runs)
           (λ other_run. empty_roomy lines other.rules (founded founding) others start other_run) sent;
-      given_once = subst (AllPairs (λ one other. one.identifier ≢ other.identifier)) (sym nothing) (λ first second d before within. absurd (omega (arith, within)));
+      given_once = subst (AllPairs (λ one other. one.identifier ≢ other.identifier)) (sym nothing)
+          (λ first second d before within. absurd (omega (arith, within)));
       given_by_rule = subst (All (ByRule founding.rules)) (sym nothing) (All-nil (ByRule founding.rules));
+      quotas_told = λ authority quota e.
+          let unfounded = ap (λ book. quota_of (record { rules = founding.rules; book = book; given_before = [] }) [] authority) (sym start) in
+          let without = ap (λ gifts. quota_of (at_founding founding) gifts authority) (sym nothing) in
+          absurd (none-some quota (sym (no_quota founding authority) ∙ (unfounded ∙ (without ∙ e))));
       quotas_add_up = λ authority left told.
           let none = ap (told_left authority) (empty_at_end lines founding.rules (founded founding) run start runs) in
           absurd (nobody authority left (sym none ∙ told));
@@ -98,12 +108,11 @@ every_run lines start begins run runs =
 
 -- ---- beneath the law
 
--- what holds at the end of a run from a good founding
-reached_sound : (founding : Founding) (book : Book) → is_identifier founding.root ≡ true → founding_refusal founding ≡ None
-    → (reached : Reached founding book) → Sound founding book (gifts reached.lines reached.run) (declines reached.lines reached.run)
-reached_sound founding book identifier good reached =
-    sound_at founding reached.leaves refl refl
-    (run_sound founding founding.rules reached.lines (founded founding) [] [] reached.run (founded_sound founding identifier good) reached.runs)
+-- what holds after any calls behind a good founding
+good_holds : (founding : Founding) → is_identifier founding.root ≡ true → founding_refusal founding ≡ None
+    → (calls : List Call) → Holds founding (after_all founding.rules (founded founding) calls)
+good_holds founding identifier good calls =
+    calls_hold founding founding.rules (founded founding) calls (record { gave = []; declined = []; sound = founded_sound founding identifier good })
 
 never_full : (rules : Rules) (book : Book) (call : Call) → HasRoom book → answer rules book call ≡ refused BookFull → ⊥
 never_full rules book call room = go (ruling rules book call) (ruling_says rules book call)
@@ -113,40 +122,55 @@ never_full rules book call room = go (ruling rules book call) (ruling_says rules
     go (refuses refusal) says full = cc
     go (enters entry) says full = cc
     go (turns t kind told) says full = says.granted BookFull full
-    go (tells told) says full = absurd (none-some says.o (sym (ap (λ told. identifier_in (answers told)) full) ∙ says.says))
+    go (tells told) says full = absurd (none-some says.o (sym (ap (λ told. identifier_in (by_call told)) full) ∙ says.says))
 
 pub good_foundings : GoodFoundings
-good_foundings founding identifier good book reached =
-    let sound = reached_sound founding book identifier good reached in
-    let all = adds_up founding book _ _ sound in
+good_foundings founding identifier good calls =
+    let holds = good_holds founding identifier good calls in
+    let all = adds_up founding _ holds.gave holds.declined holds.sound in
     let quota = good_quota founding good in
     record {
       adds_up = all;
       few = omega (arith, all, quota);
-      never_full = λ call. never_full founding.rules book call (has_room founding book _ _ sound quota);
+      never_full = λ call. never_full founding.rules _ call (has_room founding _ holds.gave holds.declined holds.sound quota);
     }
 
+-- what holds of every book that calls leave behind a founding holds behind a good one, and of the empty book
+each_founding : (P : Book → Type 0) (founding : Founding) → is_identifier founding.root ≡ true
+    → ((book : Book) → Holds founding book → P book) → P [] → (calls : List Call) → P (after_all founding.rules (founded founding) calls)
+each_founding P founding identifier holding empty calls = go (founding_refusal founding) refl
+  where
+    go : (refusal : Option FoundingRefusal) → founding_refusal founding ≡ refusal → P (after_all founding.rules (founded founding) calls)
+    go None good = holding _ (good_holds founding identifier good calls)
+    go (Some refusal) is = subst P (sym (refused_foundings founding refusal is calls).0) empty
+
 -- a panel is not the root, so its parent stands in the book, and it has its holder
-panel_holder : (founding : Founding) (book : Book) (given : List Gift) (declined : List (List ℕ)) → Sound founding book given declined
+panel_holder : (founding : Founding) (book : Book) → Holds founding book
     → (identifier : List ℕ) (panel : Entry) → found identifier book ≡ Some panel → is_authority panel.kind ≡ false
-    → (authority : Entry) × (parent_in identifier book ≡ Some authority) × (panel.holder ≡ authority.holder)
-panel_holder founding book given declined sound identifier panel here is_panel =
+    → HasParentsHolder book identifier panel
+panel_holder founding book holds identifier panel here is_panel =
+    let sound = holds.sound in
     let is = found_identifier identifier book panel here in
-    chosen (is_at identifier (root_entry founding)) _ _ _ (sym (found_first identifier (root_entry founding) sound.rest) ∙ (sym (ap (found identifier) sound.is) ∙ here))
+    let first = sym (found_first identifier (root_entry founding) sound.rest) ∙ sym (ap (found identifier) sound.is) ∙ here in
+    chosen (is_at identifier (root_entry founding)) _ _ _ first
     (λ _ root. absurd (both_ways true (ap (λ entry. is_authority entry.kind) (same_Some _ _ root) ∙ is_panel) refl))
     (λ _ later.
-    let p = found_all (HasParent book) identifier sound.rest panel sound.parents later in (
-      p.authority,
-      ap (option_and_then (λ parent. found parent book)) (ap parent_of (sym is) ∙ p.is) ∙ p.here,
-      p.holder is_panel,
-    ))
+    let p = found_all (HasParent book) identifier sound.rest panel sound.parents later in
+    record {
+      authority = p.authority;
+      parent = ap (option_and_then (λ parent. found parent book)) (ap parent_of (sym is) ∙ p.is) ∙ p.here;
+      holder = p.holder is_panel;
+    })
 
 pub panels_holders : PanelsHolders
-panels_holders founding identifier book reached one panel here is_panel = go (founding_refusal founding) refl
-  where
-    go : (refusal : Option FoundingRefusal) → founding_refusal founding ≡ refusal
-        → (authority : Entry) × (parent_in one book ≡ Some authority) × (panel.holder ≡ authority.holder)
-    go None good = panel_holder founding book _ _ (reached_sound founding book identifier good reached) one panel here is_panel
-    go (Some refusal) is =
-        let empty = (refused_foundings founding refusal is book reached).0 in
-        absurd (none-some panel (sym (nothing_found one) ∙ (ap (found one) (sym empty) ∙ here)))
+panels_holders founding identifier calls =
+    each_founding
+    (λ book. (one : List ℕ) (panel : Entry) → found one book ≡ Some panel → is_authority panel.kind ≡ false → HasParentsHolder book one panel)
+    founding identifier (panel_holder founding)
+    (λ one panel here is_panel. absurd (none-some panel (sym (nothing_found one) ∙ here))) calls
+
+pub entries_apart : EntriesApart
+entries_apart founding identifier calls =
+    each_founding (AllPairs (λ one other. one.identifier ≢ other.identifier)) founding identifier
+    (λ book holds first second d. pairs_apart book holds.sound.apart first second d)
+    (λ first second d before within. absurd (omega (arith, within))) calls

@@ -16,8 +16,8 @@ use Rattle.register.specs.declared.kind.Kind.{Kind}
 use Rattle.register.proofs.Identifiers.{same_true, same_itself}
 use Rattle.register.proofs.Rows.{chosen, all_weaker, of_kind, found_turned, found_turned_other, turned_here, turned_behind, all_turned, map_turned, sum_turned}
 use Rattle.register.proofs.Shares.{share, used_is}
-use Rattle.register.proofs.Changes.{Change, change}
-use Rattle.register.proofs.Ruled.{Turned, row_gift, is_declined}
+use Rattle.register.proofs.Changes.{Change, change, is_declined}
+use Rattle.register.proofs.Ruled.{Turned, row_gift}
 use Rattle.register.proofs.Sound.{Sound, HasParent, is_declined_at}
 
 or_false : (v : Bool) → (v || false) ≡ v
@@ -35,7 +35,7 @@ any_new identifier t false = refl
 -- At a book of which all holds:
 module _ (founding : Founding) (book : Book) (given : List Gift) (declined : List (List ℕ)) (sound : Sound founding book given declined) where
   module _ (call : Call) (t : List ℕ) (kind : Kind) (answer : Answer) (it : Turned book call t kind answer) where
-    changed : Change it.entry.kind kind
+    changed : Change it.entry.kind it.event kind
     changed = change it.entry.kind it.event kind it.next
 
     -- what is found at T is the entry whose kind is changed
@@ -114,7 +114,8 @@ module _ (founding : Founding) (book : Book) (given : List Gift) (declined : Lis
         omega (arith, falls, used_is identifier book, used_is identifier (turned t kind book), old))
 
     turned_ended : (identifier : List ℕ)
-        → list_any (same identifier) (declined ++ cons_option (cond (is_declined kind) (Some t) None) []) ≡ is_declined_at (found identifier (turned t kind book))
+        → list_any (same identifier) (declined ++ cons_option (cond (is_declined kind) (Some t) None) [])
+        ≡ is_declined_at (found identifier (turned t kind book))
     turned_ended identifier =
         list_any-append (same identifier) declined _
         ∙ ap (λ v. v || list_any (same identifier) (cons_option (cond (is_declined kind) (Some t) None) [])) (sound.ended identifier)

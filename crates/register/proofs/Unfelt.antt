@@ -9,15 +9,15 @@ use Rattle.register.specs.Book.{Entry, Book, most_entries, found, parent_in, chi
 use Rattle.register.specs.Left.{used, left}
 use Rattle.register.specs.Order.{in_order, from_arc}
 use Rattle.register.specs.Calls.{Call, grant, claim, offer, accept, decline, retire, roll, collect, accept_grant, decline_grant, place_of}
-use Rattle.register.specs.Rulings.{enters, turns, tells, Answer, named, listed, ask, standing}
-use Rattle.register.specs.Questions.{Rules, of_holder, giving, panel_below, offer_below, turning, is_held_by, spending, ruling}
+use Rattle.register.specs.Rulings.{enters, turns, tells, Answer, named, listed, ask, there_is}
+use Rattle.register.specs.Questions.{Rules, as_holder, giving, panel_below, offer_below, turning, is_held_by, spending, ruling}
 use Rattle.register.specs.Law.{is_within, outside}
 use Rattle.register.specs.declared.event.Event.{Event}
 use Rattle.register.specs.declared.event.Event.TheVariants.{Accept, Decline, Retire, Collect, AcceptGrant, DeclineGrant}
 use Rattle.register.specs.declared.refusal.Refusal.TheVariants.{NotInBook, WrongKind, NotHolder, TooDeep, TooLittleLeft, BookFull, NotInHand}
 use Rattle.register.proofs.Identifiers.{below_by_parent}
 use Rattle.register.proofs.Room.{HasRoom}
-use Rattle.register.proofs.Asking.{ask-cong, standing-cong}
+use Rattle.register.proofs.Asking.{ask-cong, there_is-cong}
 use Rattle.register.proofs.Finding.{Finder, FindAlike, lowest_free-alike, claimed-alike}
 use Rattle.register.proofs.Rows.{found_identifier}
 use Rattle.register.proofs.Purging.{found_outside, children_outside}
@@ -47,19 +47,19 @@ module _ (x : List ℕ) (long : 2 ≤ length x) (book second : Book) (agree : ou
   turning-same : (t : List ℕ) (event : Event) (right rightly : Entry → Bool) (answer : Entry → Answer) → is_within x (parent_of t) ≡ false
       → ((entry : Entry) → right entry ≡ rightly entry) → turning book t event right answer ≡ turning second t event rightly answer
   turning-same t event right rightly answer out same =
-      λ i. standing NotInBook (found-same t (below_by_parent t x long ∙ out) i) (λ entry.
-      standing WrongKind (next_kind entry.kind event) (λ kind. ask NotHolder (same entry i) (turns t kind (answer entry))))
+      λ i. there_is NotInBook (found-same t (below_by_parent t x long ∙ out) i) (λ entry.
+      there_is WrongKind (next_kind entry.kind event) (λ kind. ask NotHolder (same entry i) (turns t kind (answer entry))))
 
   spending-same : (t : List ℕ) (event : Event) → is_within x (parent_of t) ≡ false → spending book t event ≡ spending second t event
   spending-same t event out =
-      ap (λ thing. standing NotInHand thing (λ entry. standing NotInHand (next_kind entry.kind event) (λ kind. turns t kind (named t))))
+      ap (λ thing. there_is NotInHand thing (λ entry. there_is NotInHand (next_kind entry.kind event) (λ kind. turns t kind (named t))))
       (found-same t (below_by_parent t x long ∙ out))
 
   rolling-same : (holder : ℕ) (o : List ℕ) (from : ℕ) → at_or_below o x ≡ false
-      → of_holder book holder o (λ authority. tells (listed o (from_arc from (in_order (children o book)))))
-      ≡ of_holder second holder o (λ authority. tells (listed o (from_arc from (in_order (children o second)))))
+      → as_holder book holder o (λ authority. tells (listed o (from_arc from (in_order (children o book)))))
+      ≡ as_holder second holder o (λ authority. tells (listed o (from_arc from (in_order (children o second)))))
   rolling-same holder o from out =
-      λ i. standing NotInBook (found_place-same o out i) (λ authority. ask WrongKind (is_open authority.kind)
+      λ i. there_is NotInBook (found_place-same o out i) (λ authority. ask WrongKind (is_open authority.kind)
       (ask NotHolder (holder == authority.holder) (tells (listed o (from_arc from (in_order (children-same o out i)))))))
 
   module _ (room : HasRoom book) (second_room : HasRoom second) where
@@ -86,7 +86,7 @@ module _ (x : List ℕ) (long : 2 ≤ length x) (book second : Book) (agree : ou
     giving-same : (holder : ℕ) (o : List ℕ) (needed : ℕ) (one other : Finder) (made : Entry → ℕ → Entry) → at_or_below o x ≡ false
         → 1 ≤ needed → FindAlike one other → giving book holder o needed one made ≡ giving second holder o needed other made
     giving-same holder o needed one other made out some alike =
-        standing-cong NotInBook (found o book) (found o second) (found_place-same o out) (λ authority is.
+        there_is-cong NotInBook (found o book) (found o second) (found_place-same o out) (λ authority is.
         ask-cong WrongKind (is_open authority.kind) _ refl (λ may_give.
         ap (λ rest. ask NotHolder (holder == authority.holder) (ask TooDeep (nat_le (length o + 1) most_arcs) rest))
         (entering-same o needed one other made out some alike authority is may_give)))

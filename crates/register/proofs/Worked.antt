@@ -14,10 +14,10 @@ use Rattle.register.specs.Left.{used, left, told_left}
 use Rattle.register.specs.Free.{untaken}
 use Rattle.register.specs.Order.{in_order}
 use Rattle.register.specs.Calls.{Call, grant, claim, offer, accept, retire, roll}
-use Rattle.register.specs.Rulings.{Ruling, refuses, enters, turns, tells, Answer, named, listed, turned, answer_of, book_after, ask, standing}
-use Rattle.register.specs.Questions.{ruling}
+use Rattle.register.specs.Rulings.{Ruling, refuses, enters, turns, tells, Answer, named, listed, turned, answer_of, book_after, ask, there_is}
+use Rattle.register.specs.Questions.{ruling, answers_to, after_all}
 use Rattle.register.specs.Founding.{root_entry, founded}
-use Rattle.register.specs.Example.{answers_to, after_all, hall, hall_rules, hall_founding, below_hall, hall_calls, hall_panel, hall_roll, hall_answers, WorkedExample}
+use Rattle.register.specs.Example.{hall, hall_rules, hall_founding, below_hall, hall_calls, hall_panel, hall_roll, hall_answers, WorkedExample}
 
 -- The root, the offer to the holder 7, whose kind is changed, the panel below it, and the panel that is retired.
 abbrev root : Entry
@@ -33,7 +33,7 @@ abbrev retired_panel : Entry
 retired_panel = record (hall_panel 100) { kind = Retired }
 
 -- The book before each call. The refusals and the roll leave it as it is.
-abbrev before_first : Book
+abbrev pub before_first : Book
 before_first = root ∷ []
 
 abbrev before_second : Book
@@ -54,11 +54,11 @@ before_sixth = before_fifth ++ panel_of_seven ∷ []
 abbrev before_eighth : Book
 before_eighth = root ∷ retired_panel ∷ hall_panel 102 ∷ offered Open ∷ panel_of_seven ∷ []
 
-abbrev before_ninth : Book
+abbrev pub before_ninth : Book
 before_ninth = before_eighth ++ hall_panel 101 ∷ []
 
 -- an arc of a set is the lowest where no number below it is in the set
-lowest_is : (set : ArcSet) (arc : ℕ) → arc < 2 ^ 32 → set arc ≡ true → agree_below set no_arc arc ≡ true → lowest_from set 0 ≡ Some arc
+pub lowest_is : (set : ArcSet) (arc : ℕ) → arc < 2 ^ 32 → set arc ≡ true → agree_below set no_arc arc ≡ true → lowest_from set 0 ≡ Some arc
 lowest_is set arc fits here below = sym ((only_lowest set 0 (Some arc)).0 (
   omega arith,
   limit_width arc fits,
@@ -67,7 +67,8 @@ lowest_is set arc fits here below = sym ((only_lowest set 0 (Some arc)).0 (
 ))
 
 -- and there is none where no number is in the set, be it below some number or not
-none_in : (set : ArcSet) (past : ℕ) → agree_below set no_arc past ≡ true → ((arc : ℕ) → past ≤ arc → set arc ≡ false) → lowest_from set 0 ≡ None
+pub none_in : (set : ArcSet) (past : ℕ) → agree_below set no_arc past ≡ true → ((arc : ℕ) → past ≤ arc → set arc ≡ false)
+    → lowest_from set 0 ≡ None
 none_in set past below above = sym ((only_lowest set 0 None).0 (λ arc from to. go arc (nat_lt arc past) refl))
   where
     go : (arc : ℕ) (v : Bool) → nat_lt arc past ≡ v → set arc ≡ false
@@ -75,55 +76,55 @@ none_in set past below above = sym ((only_lowest set 0 None).0 (λ arc from to. 
     go arc false is = above arc (ltb-false arc past is)
 
 -- the panels that an authority may give
-abbrev free_panels : List ℕ → Book → ArcSet
+abbrev pub free_panels : List ℕ → Book → ArcSet
 free_panels o book = untaken hall_rules.panels.set (children o book)
 
 -- What the questions of each call come to, at the book before it.
 grants_100 : ruling hall_rules before_first (grant 1 hall) ≡ enters (hall_panel 100)
-unfolding found ask standing children is_taken used left
+unfolding found ask there_is children is_taken used left
 grants_100 = rw (lowest_is (free_panels hall before_first) 100 (omega arith) refl refl)
 
 claims_102 : ruling hall_rules before_second (claim 1 hall 102) ≡ enters (hall_panel 102)
-unfolding found ask standing children is_taken used left
+unfolding found ask there_is children is_taken used left
 claims_102 = rw (le-leb 102 arc_limit (limit_width 102 (omega arith)))
 
 offers_1 : ruling hall_rules before_third (offer 1 hall 4 7) ≡ enters (offered Offered)
-unfolding found ask standing children is_taken used left
+unfolding found ask there_is children is_taken used left
 offers_1 = rw (lowest_is (untaken hall_rules.authorities.set (children hall before_third)) 1 (omega arith) refl refl)
 
 accepts_1 : ruling hall_rules before_fourth (accept 7 (below_hall 1)) ≡ turns (below_hall 1) Open (named (below_hall 1))
-unfolding found ask standing
+unfolding found ask there_is
 accepts_1 = refl
 
 grants_below_1 : ruling hall_rules before_fifth (grant 7 (below_hall 1)) ≡ enters panel_of_seven
-unfolding found ask standing children is_taken used left
+unfolding found ask there_is children is_taken used left
 grants_below_1 = rw (lowest_is (free_panels (below_hall 1) before_fifth) 100 (omega arith) refl refl)
 
 refuses_offer : ruling hall_rules before_sixth (offer 1 hall 3 8) ≡ refuses TooLittleLeft
-unfolding found ask standing children used left
+unfolding found ask there_is children used left
 refuses_offer = refl
 
 retires_100 : ruling hall_rules before_sixth (retire 1 (below_hall 100)) ≡ turns (below_hall 100) Retired (named (below_hall 100))
-unfolding found ask standing
+unfolding found ask there_is
 retires_100 = refl
 
 grants_101 : ruling hall_rules before_eighth (grant 1 hall) ≡ enters (hall_panel 101)
-unfolding found ask standing children is_taken used left
+unfolding found ask there_is children is_taken used left
 grants_101 = rw (lowest_is (free_panels hall before_eighth) 101 (omega arith) refl refl)
 
 refuses_grant : ruling hall_rules before_ninth (grant 1 hall) ≡ refuses NoArc
-unfolding found ask standing children is_taken used left
+unfolding found ask there_is children is_taken used left
 refuses_grant = rw (none_in (free_panels hall before_ninth) 103 refl (λ arc above.
     and_left (from_to 100 102 arc) _ (and_right (nat_le 100 arc) _ (lt-leb arc 102 above))))
 
 lists_children : ruling hall_rules before_ninth (roll 1 hall 0) ≡ tells (listed hall hall_roll)
-unfolding found ask standing children in_order
+unfolding found ask there_is children in_order
 lists_children = refl
 
 -- the answers to calls at a book, and the book that they leave
-record Comes (book : Book) (calls : List Call) (told : List Answer) (end : Book) : Type 0 where
-  answers : answers_to hall_rules book calls ≡ told
-  leaves : after_all hall_rules book calls ≡ end
+pub record Comes (book : Book) (calls : List Call) (told : List Answer) (end : Book) : Type 0 where
+  pub answers : answers_to hall_rules book calls ≡ told
+  pub leaves : after_all hall_rules book calls ≡ end
 
 -- one call more, before the others, by what its questions come to
 one_more : {book : Book} {call : Call} {what : Ruling} {calls : List Call} {told : List Answer} {end : Book} → ruling hall_rules book call ≡ what
@@ -133,7 +134,7 @@ one_more is rest = record {
   leaves = rw is rest.leaves;
 }
 
-all_calls : Comes (founded hall_founding) hall_calls hall_answers before_ninth
+pub all_calls : Comes (founded hall_founding) hall_calls hall_answers before_ninth
 unfolding turned
 all_calls =
     one_more grants_100 (one_more claims_102 (one_more offers_1 (one_more accepts_1 (one_more grants_below_1

@@ -1,25 +1,39 @@
--- What holds of the book in every run, beneath the law.
-use Rattle.std.specs.Prelude.{ℕ, ◌+◌, ◌≤◌, ◌≡◌, ◌≢◌, ◌⊎◌, Bool, true, false, cond, List, [], length, sum_by, Some, None}
+-- What holds of the book after any calls, beneath the law; and what runs have to do with calls.
+use Rattle.std.specs.Prelude.{ℕ, ◌+◌, ◌≤◌, ◌≡◌, ◌≢◌, ◌⊎◌, Bool, true, false, cond, List, [], ◌∷◌, length, map, filter_map, slice_get, sum_by, AllPairs, Some, None}
 use Rattle.oid.specs.Tree.{is_identifier}
 use Rattle.register.specs.Kinds.{is_authority, holds_quota}
 use Rattle.register.specs.Book.{Entry, Book, most_entries, found, parent_in}
 use Rattle.register.specs.Left.{left}
 use Rattle.register.specs.Calls.{Call, accept_grant, decline_grant}
 use Rattle.register.specs.Rulings.{refused}
-use Rattle.register.specs.Questions.{Rules, answer}
+use Rattle.register.specs.Questions.{Rules, answer, after_all}
 use Rattle.register.specs.Founding.{Founding, founding_refusal, founded}
-use Rattle.register.specs.Runs.{Lines, Exchange, Runs, book_at_end}
+use Rattle.register.specs.Runs.{Sent, Lines, made_by, Exchange, Runs, book_at_end}
 use Rattle.register.specs.declared.kind.Kind.{Kind}
 use Rattle.register.specs.declared.kind.Kind.TheVariants.{Panel, Retired, Offered, InHand, Open, Declined}
 use Rattle.register.specs.declared.refusal.Refusal.TheVariants.{NotInBook, BookFull, NotInHand}
 use Rattle.register.specs.declared.founding.FoundingRefusal.{FoundingRefusal}
 
--- a book that some run leaves behind a founding
-pub record Reached (founding : Founding) (book : Book) : Type 0 where
-  pub lines : Lines
-  pub run : List Exchange
-  pub runs : Runs lines founding.rules (founded founding) run
-  pub leaves : book_at_end (founded founding) run ≡ book
+-- the calls that a run made
+abbrev pub calls_in : Lines → List Exchange → List Call
+calls_in lines run = filter_map (λ exchange. made_by lines exchange.sent) run
+
+-- A run leaves the book that its calls leave. So what holds of the book after any calls holds of it after any run.
+abbrev pub RunsAreCalls : Type 0
+RunsAreCalls = (lines : Lines) (rules : Rules) (book : Book) (run : List Exchange) → Runs lines rules book run
+    → book_at_end book run ≡ after_all rules book (calls_in lines run)
+
+-- Whatever is sent, there is a run in which it is sent, and only one.
+abbrev pub OneRun : Type 0
+OneRun = (lines : Lines) (rules : Rules) (book : Book) (sent : List Sent)
+    → (run : List Exchange) × Runs lines rules book run × (map (λ exchange. exchange.sent) run ≡ sent)
+    × ((other : List Exchange) → Runs lines rules book other → map (λ exchange. exchange.sent) other ≡ sent → other ≡ run)
+
+-- Lines can be read and answered so: for any calls there is a way by which a line of one byte makes the call of that number, on a page
+-- that is long enough.
+abbrev pub SomeLines : Type 0
+SomeLines = (calls : List Call) → (lines : Lines)
+    × ((number page : ℕ) → (lines.call_of (number ∷ []) ≡ slice_get calls number) × (lines.has_room page ≡ true))
 
 -- what all that are offered, in hand or open have left
 abbrev pub all_left : Book → ℕ
@@ -34,7 +48,7 @@ pub record Counted (founding : Founding) (book : Book) : Type 0 where
 
 abbrev pub GoodFoundings : Type 0
 GoodFoundings = (founding : Founding) → is_identifier founding.root ≡ true → founding_refusal founding ≡ None
-    → (book : Book) → Reached founding book → Counted founding book
+    → (calls : List Call) → Counted founding (after_all founding.rules (founded founding) calls)
 
 -- the calls that spend a Grant
 abbrev pub by_grant : Call → Bool
@@ -45,16 +59,29 @@ by_grant call = false
 -- After a refused founding the book stays empty, and every call without a Grant is told that what it names does not stand in it.
 abbrev pub RefusedFoundings : Type 0
 RefusedFoundings = (founding : Founding) (refusal : FoundingRefusal) → founding_refusal founding ≡ Some refusal
-    → (book : Book) → Reached founding book
-    → (book ≡ []) × ((call : Call) → answer founding.rules book call ≡ refused (cond (by_grant call) NotInHand NotInBook))
+    → (calls : List Call) → (after_all founding.rules (founded founding) calls ≡ [])
+    × ((call : Call) → answer founding.rules (after_all founding.rules (founded founding) calls) call
+    ≡ refused (cond (by_grant call) NotInHand NotInBook))
+
+-- The book is a set: no two of its entries have one identifier.
+abbrev pub EntriesApart : Type 0
+EntriesApart = (founding : Founding) → is_identifier founding.root ≡ true
+    → (calls : List Call) → AllPairs (λ one other. one.identifier ≢ other.identifier) (after_all founding.rules (founded founding) calls)
+
+-- the parent of what an identifier finds stands in the book, and has the same holder
+pub record HasParentsHolder (book : Book) (identifier : List ℕ) (entry : Entry) : Type 0 where
+  pub authority : Entry
+  pub parent : parent_in identifier book ≡ Some authority
+  pub holder : entry.holder ≡ authority.holder
 
 -- A panel's holder is its parent's, also when it is retired.
 abbrev pub PanelsHolders : Type 0
-PanelsHolders = (founding : Founding) → is_identifier founding.root ≡ true → (book : Book) → Reached founding book
-    → (identifier : List ℕ) (panel : Entry) → found identifier book ≡ Some panel → is_authority panel.kind ≡ false
-    → (authority : Entry) × (parent_in identifier book ≡ Some authority) × (panel.holder ≡ authority.holder)
+PanelsHolders = (founding : Founding) → is_identifier founding.root ≡ true
+    → (calls : List Call) (identifier : List ℕ) (panel : Entry) → found identifier (after_all founding.rules (founded founding) calls) ≡ Some panel
+    → is_authority panel.kind ≡ false → HasParentsHolder (after_all founding.rules (founded founding) calls) identifier panel
 
--- how a kind may change, in one call or in several
+-- How a kind may change, in one call or in several. The table of single changes is `next_kind`; this one is written out again, so that
+-- a change more there would show.
 abbrev pub may_become : Kind → Kind → Bool
 may_become Panel Retired = true
 may_become Offered InHand = true
@@ -71,8 +98,7 @@ pub record Becomes (entry later : Entry) : Type 0 where
   pub quota : later.quota ≡ entry.quota
   pub kind : (later.kind ≡ entry.kind) ⊎ (may_become entry.kind later.kind ≡ true)
 
--- No entry is ever removed, in any run from any book.
+-- No entry is ever removed, by any calls at any book.
 abbrev pub EntriesStay : Type 0
-EntriesStay = (lines : Lines) (rules : Rules) (book : Book) (run : List Exchange) → Runs lines rules book run
-    → (identifier : List ℕ) (entry : Entry) → found identifier book ≡ Some entry
-    → (later : Entry) × (found identifier (book_at_end book run) ≡ Some later) × Becomes entry later
+EntriesStay = (rules : Rules) (book : Book) (calls : List Call) (identifier : List ℕ) (entry : Entry) → found identifier book ≡ Some entry
+    → (later : Entry) × (found identifier (after_all rules book calls) ≡ Some later) × Becomes entry later

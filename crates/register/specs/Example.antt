@@ -1,23 +1,14 @@
 -- A worked example, as calls and their answers.
 use Rattle.std.specs.Prelude.{ℕ, ◌≡◌, List, [], ◌∷◌, ◌++◌, Ok}
 use Rattle.arc_rules.specs.Sets.{from_to, among}
-use Rattle.register.specs.Book.{Entry, Book}
+use Rattle.register.specs.Book.{Entry}
 use Rattle.register.specs.Left.{told_left}
 use Rattle.register.specs.Calls.{Call, grant, claim, offer, accept, retire, roll}
 use Rattle.register.specs.Rulings.{Answer, refused, named, listed}
-use Rattle.register.specs.Questions.{Rules, answer, after}
+use Rattle.register.specs.Questions.{Rules, answers_to, after_all}
 use Rattle.register.specs.Founding.{Founding, founded}
 use Rattle.register.specs.declared.kind.Kind.TheVariants.{Panel, Retired, Open}
 use Rattle.register.specs.declared.refusal.Refusal.TheVariants.{TooLittleLeft, NoArc}
-
--- the answers to calls, one after the other, and the book after them
-abbrev pub answers_to : Rules → Book → List Call → List Answer
-answers_to rules book [] = []
-answers_to rules book (call ∷ calls) = answer rules book call ∷ answers_to rules (after rules book call) calls
-
-abbrev pub after_all : Rules → Book → List Call → Book
-after_all rules book [] = book
-after_all rules book (call ∷ calls) = after_all rules (after rules book call) calls
 
 -- 2.999, with the panels 100 to 102 and the authorities 1, 3 and 5
 abbrev pub hall : List ℕ
@@ -55,7 +46,7 @@ hall_roll =
 
 abbrev pub hall_answers : List Answer
 hall_answers =
-    named (below_hall 100) ∷ named (below_hall 102) ∷ named (below_hall 1) ∷ named (below_hall 1) ∷ named (2 ∷ 999 ∷ 1 ∷ 100 ∷ [])
+    named (below_hall 100) ∷ named (below_hall 102) ∷ named (below_hall 1) ∷ named (below_hall 1) ∷ named (below_hall 1 ++ 100 ∷ [])
     ∷ refused TooLittleLeft ∷ named (below_hall 100) ∷ named (below_hall 101) ∷ refused NoArc ∷ listed hall hall_roll ∷ []
 
 -- The calls get these answers, and then 2.999 has 2 left.

@@ -5,7 +5,7 @@ use Rattle.arc_rules.specs.Sets.{ArcSet}
 use Rattle.arc_rules.specs.Lowest.{lowest_from}
 use Rattle.register.specs.Book.{Entry, is_taken}
 
--- an arc is in a set, which says nothing of numbers that are no arcs
+-- a number is an arc of the set; a set is a test of any number, so this asks too whether it is an arc
 abbrev pub in_set : ArcSet → ℕ → Bool
 in_set set arc = is_arc arc && set arc
 

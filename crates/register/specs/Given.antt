@@ -17,26 +17,27 @@ gift_by (claim holder o arc) identifier = Some (record { giver = o; identifier =
 gift_by (offer holder o quota taker) identifier = Some (record { giver = o; identifier = identifier; offered = Some quota })
 gift_by call identifier = None
 
--- the entry that a decline names
+-- the identifier that a decline names
 abbrev pub declined_by : Call → Option (List ℕ)
 declined_by (decline taker t) = Some t
 declined_by (decline_grant t) = Some t
 declined_by call = None
 
--- what an exchange gave: by a line, with the identifier that is read back from what was written
-abbrev pub given : Lines → Sent → Back → Option Gift
-given lines (line bytes page) (written answer) = option_and_then (λ call. option_and_then (gift_by call) (lines.read_back answer)) (lines.call_of bytes)
-given lines sent back = None
+-- what an exchange gave: by a line, with the identifier that is recovered from what was written
+abbrev pub gift_in : Lines → Sent → Back → Option Gift
+gift_in lines (line bytes page) (written said) =
+    option_and_then (λ call. option_and_then (gift_by call) (lines.recover said)) (lines.call_of bytes)
+gift_in lines sent back = None
 
 -- what an exchange declined: by a line that was answered `ok`, or with a Grant
-abbrev pub ended : Lines → Sent → Back → Option (List ℕ)
-ended lines (line bytes page) (written answer) = option_and (lines.read_back answer) (option_and_then declined_by (lines.call_of bytes))
-ended lines (declines_grant t) done = Some t
-ended lines sent back = None
+abbrev pub decline_in : Lines → Sent → Back → Option (List ℕ)
+decline_in lines (line bytes page) (written said) = option_and (lines.recover said) (option_and_then declined_by (lines.call_of bytes))
+decline_in lines (declines_grant t) done = Some t
+decline_in lines sent back = None
 
 -- all that a run gave, and all that it declined, in order
 abbrev pub gifts : Lines → List Exchange → List Gift
-gifts lines run = filter_map (λ exchange. given lines exchange.sent exchange.back) run
+gifts lines run = filter_map (λ exchange. gift_in lines exchange.sent exchange.back) run
 
 abbrev pub declines : Lines → List Exchange → List (List ℕ)
-declines lines run = filter_map (λ exchange. ended lines exchange.sent exchange.back) run
+declines lines run = filter_map (λ exchange. decline_in lines exchange.sent exchange.back) run

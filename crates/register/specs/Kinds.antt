@@ -5,30 +5,25 @@ use Rattle.register.specs.declared.kind.Kind.TheVariants.{Panel, Retired, Offere
 use Rattle.register.specs.declared.event.Event.{Event}
 use Rattle.register.specs.declared.event.Event.TheVariants.{Accept, Decline, Retire, Collect, AcceptGrant, DeclineGrant}
 
--- the authorities: an entry of these kinds has a quota
+-- panels, retired or not, are no authorities; all others are, and have a quota
 abbrev pub is_authority : Kind → Bool
 is_authority Panel = false
 is_authority Retired = false
-is_authority Offered = true
-is_authority InHand = true
-is_authority Open = true
-is_authority Declined = true
+is_authority kind = true
 
--- those whose quota is taken from the authority above
+-- the quota of these is taken from the authority above
 abbrev pub holds_quota : Kind → Bool
-holds_quota Panel = false
-holds_quota Retired = false
 holds_quota Offered = true
 holds_quota InHand = true
 holds_quota Open = true
-holds_quota Declined = false
+holds_quota kind = false
 
 -- only an open authority gives
 abbrev pub is_open : Kind → Bool
 is_open Open = true
 is_open kind = false
 
--- The kind that a call makes of an entry; none where it makes nothing of this kind. There is no other change.
+-- The kind that a call gives an entry of some kind; none where the call changes no entry of that kind. There is no other change.
 abbrev pub next_kind : Kind → Event → Option Kind
 next_kind Offered Accept = Some Open
 next_kind Offered Decline = Some Declined

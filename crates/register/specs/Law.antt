@@ -1,13 +1,14 @@
 -- The law over every run.
-use Rattle.std.specs.Prelude.{ℕ, ◌+◌, ◌≤◌, ◌≡◌, ◌≢◌, Bool, true, false, cond, not, List, [], ◌∷◌, ◌++◌, map, filter, find, All, AllPairs, count_by, sum_by, unwrap_or, Some, None, Ok, Option}
+use Rattle.std.specs.Prelude.{ℕ, ◌+◌, ◌≡◌, ◌≢◌, Bool, true, false, cond, not, List, [], ◌∷◌, ◌++◌, map, filter, find, All, AllPairs, count_by, sum_by, unwrap_or, Some, None, Ok, Option}
 use Rattle.std.specs.List.{list_any}
-use Rattle.std.specs.Option.{option_map, option_or, option_and_then}
-use Rattle.oid.specs.Arcs.{arc_limit}
+use Rattle.std.specs.Option.{option_or, option_and_then}
 use Rattle.oid.specs.Tree.{is_identifier, at_or_below, below}
 use Rattle.arc_rules.specs.Sets.{ArcSet}
 use Rattle.arc_rules.specs.Laws.{SameArcs}
-use Rattle.register.specs.Book.{Book, same, found, SameEntries}
+use Rattle.register.specs.Kinds.{is_authority}
+use Rattle.register.specs.Book.{Entry, Book, same, found, SameEntries}
 use Rattle.register.specs.Left.{told_left}
+use Rattle.register.specs.Free.{in_set}
 use Rattle.register.specs.Questions.{Rules}
 use Rattle.register.specs.Founding.{Founding, founded}
 use Rattle.register.specs.Runs.{Lines, Sent, placed, Exchange, Runs, book_at_end}
@@ -63,26 +64,33 @@ set_for rules (Some quota) = rules.authorities.set
 pub record ByRule (rules : Rules) (gift : Gift) : Type 0 where
   pub arc : ℕ
   pub identifier : gift.identifier ≡ gift.giver ++ arc ∷ []
-  pub is_arc : arc ≤ arc_limit
-  pub in_set : set_for rules gift.offered arc ≡ true
+  pub by_rule : in_set (set_for rules gift.offered) arc ≡ true
+
+-- the quota of an entry; what is no authority has none
+abbrev pub quota_in : Entry → Option ℕ
+quota_in entry = cond (is_authority entry.kind) (Some entry.quota) None
 
 -- the quota that an authority came with: from the start, or with its offer
 abbrev pub quota_of : Start → List Gift → List ℕ → Option ℕ
-quota_of start given authority =
-    option_or (option_map (λ entry. entry.quota) (found authority start.book))
-    (option_and_then (λ gift. gift.offered) (find (λ gift. same gift.identifier authority) given))
+quota_of start gifts authority =
+    option_or (option_and_then quota_in (found authority start.book))
+    (option_and_then (λ gift. gift.offered) (find (λ gift. same gift.identifier authority) gifts))
 
 -- how many identifiers an authority gave
 abbrev pub count_given : List ℕ → List Gift → ℕ
-count_given authority given = count_by (λ gift. same gift.giver authority) given
+count_given authority gifts = count_by (λ gift. same gift.giver authority) gifts
 
--- a gift's quota is out: it is an offer, and no decline ended it
-abbrev pub quota_out : List (List ℕ) → Gift → ℕ
-quota_out declined gift = cond (list_any (same gift.identifier) declined) 0 (unwrap_or gift.offered 0)
+-- what a gift still takes from its giver's quota besides the 1: an offer's quota, unless a decline ended it
+abbrev pub still_taken : List (List ℕ) → Gift → ℕ
+still_taken declined gift = cond (list_any (same gift.identifier) declined) 0 (unwrap_or gift.offered 0)
 
--- the quotas of an authority's offers that are out, together
-abbrev pub sum_out : List ℕ → List Gift → List (List ℕ) → ℕ
-sum_out authority given declined = sum_by (λ gift. cond (same gift.giver authority) (quota_out declined gift) 0) given
+-- the same of all that an authority gave
+abbrev pub sum_taken : List ℕ → List Gift → List (List ℕ) → ℕ
+sum_taken authority gifts declined = sum_by (λ gift. cond (same gift.giver authority) (still_taken declined gift) 0) gifts
+
+-- all that was given, before the start and in the run
+abbrev pub all_given : Lines → Start → List Exchange → List Gift
+all_given lines start run = start.given_before ++ gifts lines run
 
 -- What holds of a run from a start.
 pub record Law (lines : Lines) (start : Start) (run : List Exchange) : Type 0 where
@@ -93,15 +101,18 @@ pub record Law (lines : Lines) (start : Start) (run : List Exchange) : Type 0 wh
       → sent_elsewhere lines x run ≡ sent_elsewhere lines x others
       → SameElsewhere lines x start.book other.book run others
   -- No identifier was given twice, whatever became of its entry.
-  pub given_once : AllPairs (λ one other. one.identifier ≢ other.identifier) (start.given_before ++ gifts lines run)
+  pub given_once : AllPairs (λ one other. one.identifier ≢ other.identifier) (all_given lines start run)
   -- Each identifier that was given is its giver's with one arc more, by the rule for its kind.
   pub given_by_rule : All (ByRule start.rules) (gifts lines run)
-  -- The quota of each authority is what the register tells that it has left, with one for each identifier that it gave and the quotas of
-  -- its offers that no decline ended.
+  -- The register tells of each authority, that is, of what came with a quota, what it has left.
+  pub quotas_told : (authority : List ℕ) (quota : ℕ) → quota_of start (gifts lines run) authority ≡ Some quota
+      → (left : ℕ) × (told_left authority (book_at_end start.book run) ≡ Ok left)
+  -- And its quota is that, with one for each identifier that it gave, and the quotas of its offers that no decline ended.
   pub quotas_add_up : (authority : List ℕ) (left : ℕ) → told_left authority (book_at_end start.book run) ≡ Ok left
       → quota_of start (gifts lines run) authority
-      ≡ Some (left + count_given authority (start.given_before ++ gifts lines run) + sum_out authority (start.given_before ++ gifts lines run) (declines lines run))
+      ≡ Some (left + count_given authority (all_given lines start run) + sum_taken authority (all_given lines start run) (declines lines run))
 
 -- The law: of all ways to read and answer lines, all starts with any rules, and all runs.
 abbrev pub EveryRun : Type 0
-EveryRun = (lines : Lines) (start : Start) → Begins start → (run : List Exchange) → Runs lines start.rules start.book run → Law lines start run
+EveryRun = (lines : Lines) (start : Start) → Begins start
+    → (run : List Exchange) → Runs lines start.rules start.book run → Law lines start run

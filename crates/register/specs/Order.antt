@@ -1,4 +1,4 @@
--- Children in the order of their arcs.
+-- Children in the order of their arcs. What is true of such a list, Rolls says.
 use Rattle.std.specs.Prelude.{ℕ, cond, List, [], ◌∷◌, filter, nat_le, nat_lt, ◌==◌}
 use Rattle.register.specs.Book.{Entry, arc_of_child}
 

@@ -8,7 +8,7 @@ use Rattle.register.specs.Left.{left}
 use Rattle.register.specs.Free.{in_set, free_arc}
 use Rattle.register.specs.Order.{in_order, from_arc}
 use Rattle.register.specs.Calls.{Call, grant, claim, offer, accept, decline, retire, roll, collect, accept_grant, decline_grant}
-use Rattle.register.specs.Rulings.{Ruling, enters, turns, tells, Answer, named, listed, terms, answer_of, book_after, ask, standing}
+use Rattle.register.specs.Rulings.{Ruling, enters, turns, tells, Answer, named, listed, collected, answer_of, book_after, ask, there_is}
 use Rattle.register.specs.declared.kind.Kind.TheVariants.{Panel, Offered}
 use Rattle.register.specs.declared.event.Event.{Event}
 use Rattle.register.specs.declared.event.Event.TheVariants.{Accept, Decline, Retire, Collect, AcceptGrant, DeclineGrant}
@@ -20,13 +20,15 @@ pub record Rules : Type 0 where
   pub authorities : Meaning
 
 -- 14. Does O stand in the book? 15. Is it open? 16. Is the caller its holder?
-abbrev pub of_holder : Book → ℕ → List ℕ → (Entry → Ruling) → Ruling
-of_holder book holder o others =
-    standing NotInBook (found o book) (λ authority. ask WrongKind (is_open authority.kind) (ask NotHolder (holder == authority.holder) (others authority)))
+abbrev pub as_holder : Book → ℕ → List ℕ → (Entry → Ruling) → Ruling
+as_holder book holder o others =
+    there_is NotInBook (found o book) (λ authority.
+    ask WrongKind (is_open authority.kind) (
+    ask NotHolder (holder == authority.holder) (others authority)))
 
 -- 19. Is there an arc in the rule's set that no child of O has? The lowest is taken.
 abbrev pub lowest_free : Meaning → List Entry → (ℕ → Ruling) → Ruling
-lowest_free rule children others = standing NoArc (free_arc rule.set children) others
+lowest_free rule children others = there_is NoArc (free_arc rule.set children) others
 
 -- For a claim: 19. Is A in the panel rule's set? 20. Has no child of O the arc A?
 abbrev pub claimed : Meaning → ℕ → List Entry → (ℕ → Ruling) → Ruling
@@ -36,10 +38,11 @@ claimed rule arc children others = ask NoArc (in_set rule.set arc) (ask ArcTaken
 -- 19 and 20 find the arc. 21. Has the book fewer than 512 entries?
 abbrev pub giving : Book → ℕ → List ℕ → ℕ → (List Entry → (ℕ → Ruling) → Ruling) → (Entry → ℕ → Entry) → Ruling
 giving book holder o needed find_arc made =
-    of_holder book holder o (λ authority.
-    ask TooDeep (nat_le (length o + 1) most_arcs)
-    (ask TooLittleLeft (nat_le needed (left authority book))
-    (find_arc (children o book) (λ arc. ask BookFull (nat_lt (length book) most_entries) (enters (made authority arc))))))
+    as_holder book holder o (λ authority.
+    ask TooDeep (nat_le (length o + 1) most_arcs) (
+    ask TooLittleLeft (nat_le needed (left authority book)) (
+    find_arc (children o book) (λ arc.
+    ask BookFull (nat_lt (length book) most_entries) (enters (made authority arc))))))
 
 -- a new panel, whose holder is its parent's
 abbrev pub panel_below : List ℕ → Entry → ℕ → Entry
@@ -52,8 +55,9 @@ offer_below o quota taker authority arc = record { identifier = o ++ arc ∷ [];
 -- 14. Does T stand in the book? 15. Is its kind one that the call changes? 16. Is the caller the right one? Then the kind is changed.
 abbrev pub turning : Book → List ℕ → Event → (Entry → Bool) → (Entry → Answer) → Ruling
 turning book t event by_right answer =
-    standing NotInBook (found t book) (λ entry.
-    standing WrongKind (next_kind entry.kind event) (λ kind. ask NotHolder (by_right entry) (turns t kind (answer entry))))
+    there_is NotInBook (found t book) (λ entry.
+    there_is WrongKind (next_kind entry.kind event) (λ kind.
+    ask NotHolder (by_right entry) (turns t kind (answer entry))))
 
 -- it is the holder of an entry, if there is one
 abbrev pub is_held_by : ℕ → Option Entry → Bool
@@ -64,10 +68,11 @@ is_held_by holder (Some entry) = holder == entry.holder
 abbrev pub holds_parent : ℕ → List ℕ → Book → Bool
 holds_parent holder t book = is_held_by holder (parent_in t book)
 
--- 22. Is T in hand? Then its kind is changed.
+-- 22. Is T in hand? Then its kind is changed: the events of a Grant's calls change nothing else.
 abbrev pub spending : Book → List ℕ → Event → Ruling
 spending book t event =
-    standing NotInHand (found t book) (λ entry. standing NotInHand (next_kind entry.kind event) (λ kind. turns t kind (named t)))
+    there_is NotInHand (found t book) (λ entry.
+    there_is NotInHand (next_kind entry.kind event) (λ kind. turns t kind (named t)))
 
 -- what the questions of each call come to
 abbrev pub ruling : Rules → Book → Call → Ruling
@@ -78,10 +83,10 @@ ruling rules book (offer holder o quota taker) =
 ruling rules book (accept taker t) = turning book t Accept (λ entry. taker == entry.holder) (λ entry. named t)
 ruling rules book (decline taker t) = turning book t Decline (λ entry. taker == entry.holder) (λ entry. named t)
 ruling rules book (collect taker t) =
-    turning book t Collect (λ entry. taker == entry.holder) (λ entry. terms entry.holder entry.quota)
+    turning book t Collect (λ entry. taker == entry.holder) (λ entry. collected entry.holder entry.quota)
 ruling rules book (retire holder t) = turning book t Retire (λ entry. holds_parent holder t book) (λ entry. named t)
 ruling rules book (roll holder o from) =
-    of_holder book holder o (λ authority. tells (listed o (from_arc from (in_order (children o book)))))
+    as_holder book holder o (λ authority. tells (listed o (from_arc from (in_order (children o book)))))
 ruling rules book (accept_grant t) = spending book t AcceptGrant
 ruling rules book (decline_grant t) = spending book t DeclineGrant
 
@@ -91,3 +96,12 @@ answer rules book call = answer_of (ruling rules book call)
 
 abbrev pub after : Rules → Book → Call → Book
 after rules book call = book_after (ruling rules book call) book
+
+-- the same of calls one after the other
+abbrev pub answers_to : Rules → Book → List Call → List Answer
+answers_to rules book [] = []
+answers_to rules book (call ∷ calls) = answer rules book call ∷ answers_to rules (after rules book call) calls
+
+abbrev pub after_all : Rules → Book → List Call → Book
+after_all rules book [] = book
+after_all rules book (call ∷ calls) = after_all rules (after rules book call) calls

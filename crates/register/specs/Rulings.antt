@@ -13,7 +13,7 @@ pub data Answer : Type 0 where
   -- a roll's yes, with O and the children that are listed
   listed : List ℕ → List Entry → Answer
   -- a collect's yes, with the Grant's holder and quota
-  terms : ℕ → ℕ → Answer
+  collected : ℕ → ℕ → Answer
 
 -- What the questions come to: a refusal; an entry that is entered; an entry that gets another kind, with the answer; or an answer alone.
 pub data Ruling : Type 0 where
@@ -44,7 +44,7 @@ book_after (tells answer) book = book
 unfoldable pub ask : Refusal → Bool → Ruling → Ruling
 ask refusal holds others = cond holds others (refuses refusal)
 
--- a question whether something stands, which the others are then about
-unfoldable pub standing : {A : Type 0} → Refusal → Option A → (A → Ruling) → Ruling
-standing refusal None others = refuses refusal
-standing refusal (Some thing) others = others thing
+-- a question whether there is something, which the others are then about
+unfoldable pub there_is : {A : Type 0} → Refusal → Option A → (A → Ruling) → Ruling
+there_is refusal None others = refuses refusal
+there_is refusal (Some thing) others = others thing

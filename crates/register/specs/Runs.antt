@@ -5,10 +5,11 @@ use Rattle.oid.specs.Tree.{is_identifier}
 use Rattle.register.specs.Refusals.{number_of}
 use Rattle.register.specs.Book.{Book}
 use Rattle.register.specs.Calls.{Call, collect, accept_grant, decline_grant, place_of}
-use Rattle.register.specs.Rulings.{Answer, refused, named, listed, terms}
+use Rattle.register.specs.Rulings.{Answer, refused, named, listed, collected}
 use Rattle.register.specs.Questions.{Rules, answer, after}
 
--- What is sent: a line, by its bytes, with the length of its page; or a call that no line makes, by the names of what it has.
+-- What is sent: a line, by its bytes, with the length of its page; or a call that no line makes, with the identifier that it names, and
+-- for a collect the caller.
 pub data Sent : Type 0 where
   line : List ℕ → ℕ → Sent
   collects : ℕ → List ℕ → Sent
@@ -27,15 +28,15 @@ pub data Back : Type 0 where
 -- What a line is answered: that it could not be read, or what the call that it makes is answered.
 pub data LineAnswer : Type 0 where
   unread : LineAnswer
-  answers : Answer → LineAnswer
+  by_call : Answer → LineAnswer
 
 -- the identifier that an `ok` answer has: new, or named by the call
 abbrev pub identifier_in : LineAnswer → Option (List ℕ)
 identifier_in unread = None
-identifier_in (answers (refused refusal)) = None
-identifier_in (answers (named identifier)) = Some identifier
-identifier_in (answers (listed identifier children)) = Some identifier
-identifier_in (answers (terms holder quota)) = None
+identifier_in (by_call (refused refusal)) = None
+identifier_in (by_call (named identifier)) = Some identifier
+identifier_in (by_call (listed identifier children)) = Some identifier
+identifier_in (by_call (collected holder quota)) = None
 
 -- How lines are read and answered. Nothing else of them matters here: any such functions will do.
 pub record Lines : Type 0 where
@@ -43,13 +44,13 @@ pub record Lines : Type 0 where
   pub call_of : List ℕ → Option Call
   -- a page of some length is long enough for an answer
   pub has_room : ℕ → Bool
-  -- what is written for a line, on a page of some length, of an answer
+  -- what is written for a line, on a page of some length, of an answer; the line itself may tell where in it a fault was found
   pub bytes_of : List ℕ → ℕ → LineAnswer → List ℕ
-  -- the identifier in an `ok` line, read back from the bytes that were written
-  pub read_back : List ℕ → Option (List ℕ)
-  pub reads_back : (bytes : List ℕ) (page : ℕ) (answer : LineAnswer) → has_room page ≡ true
+  -- the identifier in an `ok` line, taken from the bytes that were written; none of any other answer
+  pub recover : List ℕ → Option (List ℕ)
+  pub recovers : (bytes : List ℕ) (page : ℕ) (answer : LineAnswer) → has_room page ≡ true
       → ForSome (identifier_in answer) (λ identifier. is_identifier identifier ≡ true)
-      → read_back (bytes_of bytes page answer) ≡ identifier_in answer
+      → recover (bytes_of bytes page answer) ≡ identifier_in answer
 
 -- the call that something sent would make, were its page long enough; none for a line that could not be read
 abbrev pub call_in : Lines → Sent → Option Call
@@ -62,24 +63,26 @@ call_in lines (declines_grant t) = Some (decline_grant t)
 abbrev pub placed : Lines → Sent → Option (List ℕ)
 placed lines sent = option_and_then place_of (call_in lines sent)
 
+-- only a line's page can be too short
+abbrev pub page_fits : Lines → Sent → Bool
+page_fits lines (line bytes page) = lines.has_room page
+page_fits lines sent = true
+
 -- the call that is made, and put to the book: none by a line whose page is too short, whatever its text is
 abbrev pub made_by : Lines → Sent → Option Call
-made_by lines (line bytes page) = cond (lines.has_room page) (lines.call_of bytes) None
-made_by lines (collects taker t) = Some (collect taker t)
-made_by lines (accepts_grant t) = Some (accept_grant t)
-made_by lines (declines_grant t) = Some (decline_grant t)
+made_by lines sent = cond (page_fits lines sent) (call_in lines sent) None
 
--- what a call's answer is, or what stands for it where no call was made
+-- what a line is answered, by the answer to its call, if it made one
 abbrev pub line_answer : Option Answer → LineAnswer
 line_answer None = unread
-line_answer (Some answer) = answers answer
+line_answer (Some answer) = by_call answer
 
 -- what comes back of an answer to a call that no line makes
 abbrev pub handed_back : Answer → Back
 handed_back (refused refusal) = number (number_of refusal)
 handed_back (named identifier) = done
 handed_back (listed identifier children) = done
-handed_back (terms holder quota) = handed holder quota
+handed_back (collected holder quota) = handed holder quota
 
 -- what the rules send back at a book
 abbrev pub back_at : Lines → Rules → Book → Sent → Back
@@ -108,9 +111,9 @@ pub record Serves (lines : Lines) (rules : Rules) (before : Book) (exchange : Ex
 -- A run: each exchange is served at the book that the one before it left.
 abbrev pub Runs : Lines → Rules → Book → List Exchange → Type 0
 Runs lines rules book [] = ⊤
-Runs lines rules book (exchange ∷ exchanges) = Serves lines rules book exchange × Runs lines rules exchange.book exchanges
+Runs lines rules book (exchange ∷ run) = Serves lines rules book exchange × Runs lines rules exchange.book run
 
 -- the book that a run leaves
 abbrev pub book_at_end : Book → List Exchange → Book
 book_at_end book [] = book
-book_at_end book (exchange ∷ exchanges) = book_at_end exchange.book exchanges
+book_at_end book (exchange ∷ run) = book_at_end exchange.book run

@@ -1,14 +1,30 @@
 // Laws of the register, each as the contract of a function.
-ghost use Rattle.register.specs.Beneath.{EntriesStay, GoodFoundings, PanelsHolders, RefusedFoundings};
+ghost use Rattle.register.specs.Beneath.{EntriesApart, EntriesStay, GoodFoundings, OneRun, PanelsHolders, RefusedFoundings, RunsAreCalls, SomeLines};
+ghost use Rattle.register.specs.Edges.{EdgeAnswers};
 ghost use Rattle.register.specs.Example.{WorkedExample};
-ghost use Rattle.register.specs.Grants.{OwnGrants};
+ghost use Rattle.register.specs.Grants.{CollectsGiveOwn, OwnGrants, OwnGrantsStay};
 ghost use Rattle.register.specs.Law.{EveryRun};
 ghost use Rattle.register.specs.Rolls.{RollsInOrder};
 
-// In every run from every founding: neighbours are unfelt, nothing is given twice, what is given is given by rule, and quotas add up.
+// In every run from every founding neighbours are unfelt, nothing is given twice, what is given is given by rule, and quotas add up.
 #[tactic(auto, using(crate::proofs::Theorems::every_run))]
 pub fn every_run()
     ensures { EveryRun }
+{}
+
+// Whatever is sent, there is a run in which it is sent, and only one.
+pub fn one_run()
+    ensures { OneRun }
+{}
+
+// There are ways to read and answer lines as the law asks.
+pub fn some_lines()
+    ensures { SomeLines }
+{}
+
+// A run leaves the book that its calls leave; so what the laws below say of calls holds of runs.
+pub fn runs_are_calls()
+    ensures { RunsAreCalls }
 {}
 
 // After a good founding the entries, and what all that are offered, in hand or open have left, are one more than the root's quota. So the
@@ -22,20 +38,19 @@ pub fn refused_foundings()
     ensures { RefusedFoundings }
 {}
 
+// No two entries have one identifier.
+pub fn entries_apart()
+    ensures { EntriesApart }
+{}
+
 // A panel's holder is its parent's.
 pub fn panels_holders()
     ensures { PanelsHolders }
 {}
 
 // No entry is ever removed, nothing of it but its kind changes, and that only in few ways.
-#[tactic(auto, using(crate::proofs::Staying::entries_stay))]
 pub fn entries_stay()
     ensures { EntriesStay }
-{}
-
-// A Grant that is the register's own for an entry does what the call that names the entry does.
-pub fn own_grants()
-    ensures { OwnGrants }
 {}
 
 // A roll lists the children with arcs from one upwards, each arc once, in ascending order.
@@ -43,8 +58,29 @@ pub fn rolls_in_order()
     ensures { RollsInOrder }
 {}
 
+// A Grant that is the register's own for an entry does what the calls do that name the entry.
+pub fn own_grants()
+    ensures { OwnGrants }
+{}
+
+// What a collect gives is the register's own Grant.
+pub fn collects_give_own()
+    ensures { CollectsGiveOwn }
+{}
+
+// And it stays so, whatever is called.
+pub fn own_grants_stay()
+    ensures { OwnGrantsStay }
+{}
+
 // A worked example, as calls and their answers.
 #[tactic(auto, using(crate::proofs::Worked::worked_example))]
 pub fn worked_example()
     ensures { WorkedExample }
+{}
+
+// Answers at the edges: who may call, which kinds are wanted, and which question is put first.
+#[tactic(auto, using(crate::proofs::Edging::edge_answers))]
+pub fn edge_answers()
+    ensures { EdgeAnswers }
 {}

@@ -1,4 +1,4 @@
--- A book after a good founding, by the theorem.
+-- By the theorem.
 use Rattle.register.proofs.Theorems.{good_foundings}
 use Rattle.register.proofs.laws.good_foundings.Goals as goal
 

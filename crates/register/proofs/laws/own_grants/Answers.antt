@@ -1,4 +1,4 @@
--- A Grant of the register's own, by the theorem.
+-- By the theorem.
 use Rattle.register.proofs.OwnGrants.{own_grants}
 use Rattle.register.proofs.laws.own_grants.Goals as goal
 

@@ -1,4 +1,4 @@
--- The holder of a panel, by the theorem.
+-- By the theorem.
 use Rattle.register.proofs.Theorems.{panels_holders}
 use Rattle.register.proofs.laws.panels_holders.Goals as goal
 

@@ -1,4 +1,4 @@
--- A book after a refused founding, by the theorem.
+-- By the theorem.
 use Rattle.register.proofs.Empty.{refused_foundings}
 use Rattle.register.proofs.laws.refused_foundings.Goals as goal
 

@@ -1,4 +1,4 @@
--- A roll, by the theorem.
+-- By the theorem.
 use Rattle.register.proofs.Rolling.{rolls_in_order}
 use Rattle.register.proofs.laws.rolls_in_order.Goals as goal
 
