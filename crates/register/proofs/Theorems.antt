@@ -13,7 +13,7 @@ use Rattle.register.specs.Left.{told_left}
 use Rattle.register.specs.Founding.{Founding, founding_refusal, root_entry, founded}
 use Rattle.register.specs.Runs.{by_call, identifier_in, Lines, Exchange, Runs}
 use Rattle.register.specs.Given.{gifts}
-use Rattle.register.specs.Law.{Start, at_founding, quota_of, Alike, sent_elsewhere, SameElsewhere, ByRule, Law, EveryRun}
+use Rattle.register.specs.Law.{FoundedAlike, Start, at_founding, quota_of, Alike, sent_elsewhere, SameElsewhere, ByRule, Law, EveryRun}
 use Rattle.register.specs.Calls.{Call}
 use Rattle.register.specs.Rulings.{refused, Ruling, refuses, enters, turns, tells, answer_of}
 use Rattle.register.specs.Questions.{Rules, ruling, answer, after_all}
@@ -105,6 +105,14 @@ every_run lines start begins run runs =
         → Law lines (at_founding begins.0) run
     go None good runs = good_law lines begins.0 begins.1 good run runs
     go (Some refusal) is runs = refused_law lines begins.0 refusal is run runs
+
+-- a founding's book does not depend on its rules
+pub founded_alike : FoundedAlike
+founded_alike one other root holder quota panels authorities = record {
+  book = λ i. founded (record { root = root i; holder = holder i; quota = quota i; rules = one.rules });
+  panels = panels;
+  authorities = authorities;
+}
 
 -- ---- beneath the law
 

@@ -28,11 +28,17 @@ at_founding founding = record { rules = founding.rules; book = founded founding;
 abbrev pub Begins : Start → Type 0
 Begins start = (founding : Founding) × (is_identifier founding.root ≡ true) × (start ≡ at_founding founding)
 
--- Two starts are alike: the same book, and rules with the same arcs. Foundings with equal root, holder, quota and rules are.
+-- Two starts are alike: the same book, and rules with the same arcs.
 pub record Alike (one other : Start) : Type 0 where
   pub book : one.book ≡ other.book
   pub panels : SameArcs one.rules.panels.set other.rules.panels.set
   pub authorities : SameArcs one.rules.authorities.set other.rules.authorities.set
+
+-- Foundings are, whose root, holder and quota are equal and whose rules have the same arcs.
+abbrev pub FoundedAlike : Type 0
+FoundedAlike = (one other : Founding) → one.root ≡ other.root → one.holder ≡ other.holder → one.quota ≡ other.quota
+    → SameArcs one.rules.panels.set other.rules.panels.set → SameArcs one.rules.authorities.set other.rules.authorities.set
+    → Alike (at_founding one) (at_founding other)
 
 -- a place is at or below X; what has no place is elsewhere
 abbrev pub is_within : List ℕ → Option (List ℕ) → Bool

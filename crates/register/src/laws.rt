@@ -3,13 +3,18 @@ ghost use Rattle.register.specs.Beneath.{EntriesApart, EntriesStay, GoodFounding
 ghost use Rattle.register.specs.Edges.{EdgeAnswers};
 ghost use Rattle.register.specs.Example.{WorkedExample};
 ghost use Rattle.register.specs.Grants.{CollectsGiveOwn, OwnGrants, OwnGrantsStay};
-ghost use Rattle.register.specs.Law.{EveryRun};
+ghost use Rattle.register.specs.Law.{EveryRun, FoundedAlike};
 ghost use Rattle.register.specs.Rolls.{RollsInOrder};
 
 // In every run from every founding neighbours are unfelt, nothing is given twice, what is given is given by rule, and quotas add up.
 #[tactic(auto, using(crate::proofs::Theorems::every_run))]
 pub fn every_run()
     ensures { EveryRun }
+{}
+
+// Foundings with equal root, holder and quota, and rules with the same arcs, are alike, as the law asks of two starts.
+pub fn founded_alike()
+    ensures { FoundedAlike }
 {}
 
 // Whatever is sent, there is a run in which it is sent, and only one.
