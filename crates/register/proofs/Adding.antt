@@ -18,7 +18,7 @@ use Rattle.register.specs.declared.kind.Kind.TheVariants.{Panel, Retired, Offere
 use Rattle.register.proofs.Identifiers.{same_itself}
 use Rattle.register.proofs.Rows.{chosen, found_identifier, found_all, all_both}
 use Rattle.register.proofs.Shares.{share, used_is, sum_same}
-use Rattle.register.proofs.Sound.{Sound, HasParent, is_declined_at, root_apart, left_is}
+use Rattle.register.proofs.Sound.{Sound, HasParent, is_declined_at, root_takes_nothing, left_is}
 use Rattle.register.proofs.Changes.{is_declined}
 use Rattle.register.proofs.Ruled.{row_gift}
 use Rattle.register.proofs.Counting.{sum_add, rows_found, none_passes}
@@ -124,7 +124,7 @@ module _ (founding : Founding) (book : Book) (gifts : List Gift) (declined : Lis
       let both = sum_add (λ row. one_of authority (row_gift row)) (λ row. taken_of authority (row_gift row)) sound.rest in
       let ones = ap (count_given authority) sound.gave ∙ sum_map (one_of authority) row_gift sound.rest in
       let quotas = ap (λ gifts. sum_taken authority gifts declined) sound.gave ∙ sum_map (taken_of authority) row_gift sound.rest in
-      omega (arith, used_is authority book, all, root_apart founding authority long, shares, both, ones, quotas)
+      omega (arith, used_is authority book, all, root_takes_nothing founding authority long, shares, both, ones, quotas)
 
   pub quotas : founded founding ≡ root_entry founding ∷ [] → (authority : List ℕ) (rest : ℕ) → told_left authority book ≡ Ok rest
       → quota_of (at_founding founding) gifts authority ≡ Some (rest + count_given authority gifts + sum_taken authority gifts declined)

@@ -19,16 +19,16 @@ use Rattle.register.specs.Law.{ByRule}
 use Rattle.register.proofs.Room.{RoomAlong}
 use Rattle.register.proofs.Rows.{chosen, found_identifier, found_all}
 use Rattle.register.proofs.Shares.{share, used_is}
-use Rattle.register.proofs.Sound.{Sound, root_apart, is_declined_at}
+use Rattle.register.proofs.Sound.{Sound, root_takes_nothing, is_declined_at}
 use Rattle.register.proofs.Entering.{enters_sound}
 use Rattle.register.proofs.Turning.{turns_sound}
 use Rattle.register.proofs.Changes.{is_declined}
 use Rattle.register.proofs.Ruled.{Says, ruling_says}
-use Rattle.register.proofs.Counting.{has_room}
+use Rattle.register.proofs.Counting.{makes_room}
 use Rattle.register.proofs.Telling.{gift_of, ended_of, Tells, sent_tells}
 use Rattle.register.proofs.Identified.{entered_parent}
 
-pub sound_at : (founding : Founding) {book after : Book} {before gifts : List Gift} {declined ends : List (List ℕ)}
+sound_at : (founding : Founding) {book after : Book} {before gifts : List Gift} {declined ends : List (List ℕ)}
     → book ≡ after → before ≡ gifts → declined ≡ ends → Sound founding book before declined → Sound founding after gifts ends
 sound_at founding {book} {after} {before} {gifts} {declined} {ends} book_is gifts_are ends_are sound =
     subst (λ book. Sound founding book gifts ends) book_is
@@ -50,7 +50,7 @@ module _ (founding : Founding) (rules : Rules) (book : Book) (before : List Gift
       sound_at founding refl (sym (append-nil before)) refl (turns_sound founding book before declined sound call t kind answer says)
 
   -- an exchange keeps all of it
-  pub exchange_sound : (lines : Lines) (exchange : Exchange) → Serves lines rules book exchange
+  exchange_sound : (lines : Lines) (exchange : Exchange) → Serves lines rules book exchange
       → Sound founding exchange.book (before ++ cons_option (gift_in lines exchange.sent exchange.back) [])
       (declined ++ cons_option (decline_in lines exchange.sent exchange.back) [])
   exchange_sound lines exchange served =
@@ -86,9 +86,9 @@ module _ (founding : Founding) (rules : Rules) (lines : Lines) where
   -- every book has room where somebody has 1 left
   pub run_room : founding.quota ≤ most_quota → (book : Book) (before : List Gift) (declined : List (List ℕ)) (run : List Exchange)
       → Sound founding book before declined → Runs lines rules book run → RoomAlong book run
-  run_room quota book before declined [] sound runs = has_room founding book before declined sound quota
+  run_room quota book before declined [] sound runs = makes_room founding book before declined sound quota
   run_room quota book before declined (exchange ∷ run) sound runs = (
-    has_room founding book before declined sound quota,
+    makes_room founding book before declined sound quota,
     run_room quota exchange.book _ _ run (exchange_sound founding rules book before declined sound lines exchange runs.0) runs.1,
   )
 
@@ -173,7 +173,8 @@ founded_sound founding identifier good =
         let long : length founding.root ≤ length entry.identifier =
         found_all (λ row. length founding.root ≤ length row.identifier) one (root_entry founding ∷ []) entry (omega arith, tt) e in
         let is = ap length (found_identifier one (root_entry founding ∷ []) entry e) in
-        omega (arith, used_is one (root_entry founding ∷ []), sum_by-cons (share one) (root_entry founding) [], root_apart founding one (omega (arith, long, is)))
+        let first = sum_by-cons (share one) (root_entry founding) [] in
+        omega (arith, used_is one (root_entry founding ∷ []), first, root_takes_nothing founding one (omega (arith, long, is)))
 
     undeclined : (one : List ℕ) → list_any (same one) [] ≡ is_declined_at (found one (root_entry founding ∷ []))
     undeclined one = sym (go (found one (root_entry founding ∷ [])) refl)

@@ -31,14 +31,14 @@ pub record Change (old : Kind) (event : Event) (kind : Kind) : Type 0 where
   pub becomes : may_become old kind ≡ true
 
 -- all of this as one test
-abbrev stays : Kind → Kind → Bool
-stays old kind = beq (is_authority kind) (is_authority old) && (not (is_open old) && not (is_declined old))
+abbrev may_change : Kind → Kind → Bool
+may_change old kind = beq (is_authority kind) (is_authority old) && (not (is_open old) && not (is_declined old))
 
 abbrev turns_into : Kind → Event → Kind → Bool
 turns_into old event kind = beq (is_declined kind) (declines_by event) && (not (holds_quota kind && not (holds_quota old)) && may_become old kind)
 
 abbrev is_change : Kind → Event → Kind → Bool
-is_change old event kind = stays old kind && turns_into old event kind
+is_change old event kind = may_change old kind && turns_into old event kind
 
 -- which the changes that there are pass
 changes : (old : Kind) (event : Event) (kind : Kind) → next_kind old event ≡ Some kind → is_change old event kind ≡ true
@@ -57,7 +57,7 @@ no_more false old quota h = omega arith
 
 pub change : (old : Kind) (event : Event) (kind : Kind) → next_kind old event ≡ Some kind → Change old event kind
 change old event kind e =
-    let both = and_parts (stays old kind) (turns_into old event kind) (changes old event kind e) in
+    let both = and_parts (may_change old kind) (turns_into old event kind) (changes old event kind e) in
     let here = and_parts (beq (is_authority kind) (is_authority old)) _ both.0 in
     let before = and_parts (not (is_open old)) _ here.1 in
     let after = and_parts (beq (is_declined kind) (declines_by event)) _ both.1 in

@@ -16,7 +16,7 @@ use Rattle.register.proofs.Identifiers.{same_true, same_itself, child_true, chil
 use Rattle.register.proofs.Rows.{chosen, found_identifier, all_weaker, all_of, all_both}
 use Rattle.register.proofs.Shares.{share, used_is, sum_same, sum_none}
 use Rattle.register.proofs.Room.{HasRoom}
-use Rattle.register.proofs.Sound.{Sound, HasParent, root_apart, left_is}
+use Rattle.register.proofs.Sound.{Sound, HasParent, root_takes_nothing, left_is}
 
 -- ---- sums
 
@@ -92,7 +92,7 @@ open_holds : (kind : Kind) → is_open kind ≡ true → holds_quota kind ≡ tr
 open_holds Open opened = refl
 open_holds kind opened = absurd (both_ways false refl opened)
 
--- an entry's own quota, and what its children have used up of it, while it is offered, in hand or open
+-- an entry's own quota, what its children have used up of it, and what it has left, while it is offered, in hand or open
 abbrev own_quota : Entry → ℕ
 own_quota entry = cond (holds_quota entry.kind) entry.quota 0
 
@@ -136,7 +136,7 @@ module _ (founding : Founding) (book : Book) (before : List Gift) (declined : Li
   unfolding taken_by root
   root_takes =
       sum_none _ book (all_weaker (λ row. length founding.root ≤ length row.identifier) _ book
-      (λ above long. cond_none (holds_quota above.kind) _ (root_apart founding above.identifier long)) sound.long)
+      (λ above long. cond_none (holds_quota above.kind) _ (root_takes_nothing founding above.identifier long)) sound.long)
 
   row_takes : (row : Entry) → HasParent book row → taken_by row ≡ counted row
   unfolding taken_by
@@ -199,8 +199,8 @@ module _ (founding : Founding) (book : Book) (before : List Gift) (declined : Li
       (λ _ is. let later = left_among authority rows identifier is opened in omega (arith, all, later))
 
   -- so where somebody has 1 left, there is room
-  pub has_room : founding.quota ≤ most_quota → HasRoom book
-  has_room quota = record {
+  pub makes_room : founding.quota ≤ most_quota → HasRoom book
+  makes_room quota = record {
     room = λ o authority here opened some.
         omega (arith, adds_up, left_among authority book o here opened, some, quota);
   }

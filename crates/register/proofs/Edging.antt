@@ -1,4 +1,4 @@
--- The answers of the second example.
+-- The answers of the second example, and what its books have left.
 use Rattle.std.proofs.Common.{◌≡◌, ℕ, ◌^◌, ◌<◌, true, List, [], ◌∷◌, ◌++◌, nat_le, map, refl, sym, ap, ◌∙◌, subst, arith}
 use Rattle.std.proofs.lemmas.Bool.{le-leb, lt-leb, and_left, and_right}
 use Rattle.oid.specs.Arcs.{arc_limit}
@@ -15,7 +15,7 @@ use Rattle.register.specs.Rulings.{Answer, enters, book_after, turned, ask, ther
 use Rattle.register.specs.Questions.{Rules, ruling, answer, after_all}
 use Rattle.register.specs.Founding.{founded}
 use Rattle.register.specs.Example.{hall, hall_rules, hall_founding, below_hall}
-use Rattle.register.specs.Edges.{GetAnswers, hall_edges, offered_edges, collected_edges, declined_edges, deepest_founding, deepest_edges, next_deepest, next_deepest_founding, next_deepest_edges, deep_panel, granted_book, granted_edges, bare_rules, bare_founding, spent_edges, bare_edges, EdgeAnswers, told}
+use Rattle.register.specs.Edges.{GetAnswers, hall_edges, offered_edges, collected_edges, declined_edges, deepest_founding, deepest_edges, next_deepest, next_deepest_founding, next_deepest_edges, deep_panel, granted_book, granted_edges, bare_rules, bare_founding, spent_edges, bare_edges, EdgeAnswers, told, low_rules, low_founding, low_edges, offered_book, collected_book, declined_book}
 use Rattle.register.proofs.Worked.{before_first, before_ninth, lowest_is, none_in, free_panels, all_calls}
 
 -- each call gets its answer where the list of what they are answered is the list of the answers
@@ -24,7 +24,7 @@ each : (rules : Rules) (book : Book) (edges : List (Call × Answer)) → map (λ
 each rules book [] same = tt
 each rules book (edge ∷ edges) same = (cc, each rules book edges (cc))
 
--- an arc is one
+-- a small number is an arc
 small : (arc : ℕ) → arc < 2 ^ 32 → nat_le arc arc_limit ≡ true
 small arc fits = le-leb arc arc_limit (limit_width arc fits)
 
@@ -47,7 +47,7 @@ at_hall = each hall_rules before_ninth hall_edges (rw (
 abbrev offer_to_8 : Kind → Entry
 offer_to_8 kind = record { identifier = below_hall 1; kind = kind; holder = 8; quota = 2 }
 
-abbrev with_offer : Kind → Book
+abbrev pub with_offer : Kind → Book
 with_offer kind = before_first ++ offer_to_8 kind ∷ []
 
 offers : ruling hall_rules before_first (offer 1 hall 2 8) ≡ enters (offer_to_8 Offered)
@@ -121,28 +121,38 @@ at_bare = each bare_rules (founded (bare_founding 1)) bare_edges (rw (
   small 3 (omega arith),
 ))
 
+at_low : GetAnswers low_rules (founded low_founding) low_edges
+unfolding found ask there_is children is_taken used left
+at_low = each low_rules (founded low_founding) low_edges (rw (
+  lowest_is (untaken low_rules.panels.set []) 0 (omega arith) refl refl,
+  lowest_is (untaken low_rules.authorities.set []) 0 (omega arith) refl refl,
+  small 0 (omega arith),
+))
+
+pub after_an_offer : offered_book ≡ with_offer Offered
+after_an_offer = after_offer [] (with_offer Offered) refl
+
+pub after_a_collect : collected_book ≡ with_offer InHand
+after_a_collect = after_offer (collect 8 (below_hall 1) ∷ []) (with_offer InHand) collects
+
+after_a_decline : declined_book ≡ with_offer Declined
+after_a_decline = after_offer (decline 8 (below_hall 1) ∷ []) (with_offer Declined) declines
+
 pub edge_answers : EdgeAnswers
 unfolding found children used left
-edge_answers =
-    let offered = after_offer [] (with_offer Offered) refl in
-    let in_hand = after_offer (collect 8 (below_hall 1) ∷ []) (with_offer InHand) collects in
-    let declined = after_offer (decline 8 (below_hall 1) ∷ []) (with_offer Declined) declines in
-    record {
-      after_ten_calls = subst (λ book. GetAnswers hall_rules book hall_edges) (sym all_calls.leaves) at_hall;
-      with_an_offer = subst (λ book. GetAnswers hall_rules book offered_edges) (sym offered) at_offered;
-      with_a_grant = subst (λ book. GetAnswers hall_rules book collected_edges) (sym in_hand) at_collected;
-      with_a_decline = subst (λ book. GetAnswers hall_rules book declined_edges) (sym declined) at_declined;
-      deepest = at_deepest;
-      next_deepest = at_next_deepest;
-      granted = subst (λ book. GetAnswers hall_rules book granted_edges) (sym grants) at_granted;
-      nothing_left = at_spent;
-      no_arcs = at_bare;
-      left_after_ten_calls = ap (λ book. told book (hall ∷ below_hall 1 ∷ below_hall 101 ∷ below_hall 100 ∷ below_hall 3 ∷ [])) all_calls.leaves;
-      left_with_an_offer = ap (λ book. told book (hall ∷ below_hall 1 ∷ [])) offered;
-      left_with_a_grant = ap (λ book. told book (hall ∷ below_hall 1 ∷ [])) in_hand;
-      left_with_a_decline = ap (λ book. told book (hall ∷ below_hall 1 ∷ [])) declined;
-      places = refl;
-      backs = refl;
-      foundings = refl;
-      numbers = refl;
-    }
+edge_answers = record {
+  after_ten_calls = subst (λ book. GetAnswers hall_rules book hall_edges) (sym all_calls.leaves) at_hall;
+  with_an_offer = subst (λ book. GetAnswers hall_rules book offered_edges) (sym after_an_offer) at_offered;
+  with_a_grant = subst (λ book. GetAnswers hall_rules book collected_edges) (sym after_a_collect) at_collected;
+  with_a_decline = subst (λ book. GetAnswers hall_rules book declined_edges) (sym after_a_decline) at_declined;
+  deepest = at_deepest;
+  next_deepest = at_next_deepest;
+  granted = subst (λ book. GetAnswers hall_rules book granted_edges) (sym grants) at_granted;
+  nothing_left = at_spent;
+  no_arcs = at_bare;
+  left_after_ten_calls = ap (λ book. told book (hall ∷ below_hall 1 ∷ below_hall 101 ∷ below_hall 100 ∷ below_hall 3 ∷ [])) all_calls.leaves;
+  left_with_an_offer = ap (λ book. told book (hall ∷ below_hall 1 ∷ [])) after_an_offer;
+  left_with_a_grant = ap (λ book. told book (hall ∷ below_hall 1 ∷ [])) after_a_collect;
+  left_with_a_decline = ap (λ book. told book (hall ∷ below_hall 1 ∷ [])) after_a_decline;
+  lowest_arc = at_low;
+}

@@ -1,4 +1,4 @@
--- After a refused founding the book stays empty, nothing is given, and each call is told that nothing stands in it.
+-- After a refused founding the book stays empty, nothing is given, and each call is refused.
 use Rattle.std.proofs.Common.{◌≡◌, cond, List, [], ◌∷◌, Some, None, Option, refl, sym, ap, ◌∙◌, subst}
 use Rattle.std.specs.List.{cons_option}
 use Rattle.std.proofs.lemmas.Option.{none-some}
@@ -51,7 +51,7 @@ module _ (lines : Lines) (rules : Rules) where
       (ap (gift_in lines exchange.sent) (runs.0.answered ∙ ap (λ book. back_at lines rules book exchange.sent) empty) ∙ none_given exchange.sent)
       ∙ empty_gives exchange.book run (empty_after book exchange empty runs.0) runs.1
 
-  -- and nobody has anything left
+  -- and where nobody is found, there is room wherever somebody has 1 left
   empty_room : HasRoom []
   unfolding found
   empty_room = record { room = λ o authority here opened some. absurd (none-some authority here) }

@@ -17,7 +17,7 @@ use Rattle.register.proofs.Rows.{chosen, found_identifier, found_all, found_befo
 use Rattle.register.proofs.Shares.{share, used_is, used_more, sum_none}
 use Rattle.register.proofs.Ruled.{Entered, row_gift}
 use Rattle.register.proofs.Identified.{giver_long, entered_parent, entered_long, entered_identified}
-use Rattle.register.proofs.Sound.{Sound, HasParent, is_declined_at, root_apart, left_is, counted_some}
+use Rattle.register.proofs.Sound.{Sound, HasParent, parent_again, is_declined_at, root_takes_nothing, left_is, counted_some}
 
 -- an identifier that is not found has no row
 no_row : (identifier : List ℕ) (book : Book) → found identifier book ≡ None → count_by (is_at identifier) book ≡ 0
@@ -48,17 +48,6 @@ taken_if o arc (row ∷ rows) entry long e =
     (λ child _. ap (list_any (λ child. nat_eq (arc_of_child child) arc)) (cond-true _ _ _ child) ∙ or_right _ _ later)
     (λ other _. ap (list_any (λ child. nat_eq (arc_of_child child) arc)) (cond-false _ _ _ other) ∙ later))
 
--- a parent is found with one entry more
-parent_before : (book : Book) (more row : Entry) → HasParent book row → HasParent (book ++ more ∷ []) row
-parent_before book more row p = record {
-  parent = p.parent;
-  authority = p.authority;
-  is = p.is;
-  here = found_before p.parent book p.authority more p.here;
-  opened = p.opened;
-  holder = p.holder;
-}
-
 -- At a book of which all holds:
 module _ (founding : Founding) (book : Book) (given : List Gift) (declined : List (List ℕ)) (sound : Sound founding book given declined) where
   -- what is not found has no children
@@ -67,7 +56,7 @@ module _ (founding : Founding) (book : Book) (given : List Gift) (declined : Lis
   no_children identifier none long =
       used_is identifier book
       ∙ sum_none (share identifier) book (subst (AllByRecursion (λ row. share identifier row ≡ 0)) (sym sound.is)
-      (root_apart founding identifier long, all_weaker (HasParent book) (λ row. share identifier row ≡ 0) sound.rest childless sound.parents))
+      (root_takes_nothing founding identifier long, all_weaker (HasParent book) (λ row. share identifier row ≡ 0) sound.rest childless sound.parents))
     where
       childless : (row : Entry) → HasParent book row → share identifier row ≡ 0
       childless row p =
@@ -93,7 +82,7 @@ module _ (founding : Founding) (book : Book) (given : List Gift) (declined : Lis
     entry_long = entered_long book sound.identified rules call entry entered
 
     -- a new entry's identifier was not in the book
-    pub is_new : found entry.identifier book ≡ None
+    is_new : found entry.identifier book ≡ None
     is_new = go (found entry.identifier book) refl
       where
         go : (there : Option Entry) → found entry.identifier book ≡ there → there ≡ None
@@ -160,7 +149,8 @@ module _ (founding : Founding) (book : Book) (given : List Gift) (declined : Lis
           (entered_identified book sound.identified rules call entry entered);
       long = all_push (λ row. length founding.root ≤ length row.identifier) book entry sound.long (omega (arith, entry_long, giver_below));
       parents = all_push (HasParent (book ++ entry ∷ [])) sound.rest entry
-          (all_weaker (HasParent book) (HasParent (book ++ entry ∷ [])) sound.rest (parent_before book entry) sound.parents)
+          (all_weaker (HasParent book) (HasParent (book ++ entry ∷ [])) sound.rest
+          (λ row p. parent_again p (found_before p.parent book p.authority entry p.here)) sound.parents)
           (record {
             parent = entered.o;
             authority = entered.authority;

@@ -9,7 +9,7 @@ use Rattle.register.specs.Questions.{Rules, ruling, answer}
 use Rattle.register.specs.Runs.{Lines, Sent, line, collects, accepts_grant, declines_grant, written, too_short, line_answer, handed_back, call_in, placed, made_by, back_at, after_made}
 use Rattle.register.specs.Law.{is_within, outside}
 use Rattle.register.proofs.Room.{HasRoom}
-use Rattle.register.proofs.Purging.{Touches, after_outside, after_within}
+use Rattle.register.proofs.Outside.{Touches, after_outside, after_within}
 use Rattle.register.proofs.Touching.{touches}
 use Rattle.register.proofs.Unfelt.{ruling-same}
 

@@ -65,7 +65,7 @@ row_turned t kind (row ∷ rows) place entry e =
         let kept = rest place entry e in
         record { later = kept.later; stands = kept.stands; holder = kept.holder; quota = kept.quota }
 
--- a first row stays the first where the place and the length, or more of it, stay
+-- a first row stays the first where its number stays, and the book is no shorter
 position_is : (t : List ℕ) (book after : Book) (row : ℕ) → position (is_at t) book ≡ Some row
     → position_or_len (is_at t) after ≡ position_or_len (is_at t) book → length book ≤ length after → position (is_at t) after ≡ Some row
 position_is t book after row first same long =

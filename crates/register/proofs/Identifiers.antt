@@ -1,6 +1,6 @@
 -- Identifiers that are the same, parents and children, and what is below what, on lists of arcs.
 use Rattle.std.proofs.Common.{◌≡◌, ℕ, ◌+◌, ◌-◌, ◌<◌, ◌≤◌, Bool, true, false, ◌&&◌, eqb, List, [], ◌∷◌, ◌++◌, length, get_or, take, Some, None, Option, Decides, refl, sym, ap, ◌∙◌, subst, ⊎_elim, arith}
-use Rattle.std.proofs.lemmas.Bool.{cases_lt, and_right, cond-true, cond-false, lt-ltb, le-ltb, false_from_ne_true}
+use Rattle.std.proofs.lemmas.Bool.{both_ways, cases_lt, and_right, cond-true, cond-false, lt-ltb, le-ltb}
 use Rattle.std.proofs.lemmas.Bool.Decides.{Decides-eqb}
 use Rattle.std.proofs.lemmas.List.{length_push, length-take-le, take_at, take_all, take_more}
 use Rattle.std.proofs.lemmas.Slice.Eq.{slice_eq-Decides}
@@ -19,8 +19,9 @@ same_true a b h = (same_decides a b).0 h
 pub same_itself : (a : List ℕ) → same a a ≡ true
 same_itself a = (same_decides a a).1 refl
 
-pub differs : (a b : List ℕ) → (a ≡ b → ⊥) → same a b ≡ false
-differs a b apart = false_from_ne_true (same a b) (λ h. apart (same_true a b h))
+-- what is not the same is not equal
+pub apart : (a b : List ℕ) → same a b ≡ false → a ≡ b → ⊥
+apart a b other is = both_ways _ other (ap (same a) (sym is) ∙ same_itself a)
 
 -- an entry is a child where its parent is the one named
 pub child_true : (parent : List ℕ) (entry : Entry) → is_child parent entry ≡ true → parent_of entry.identifier ≡ Some parent
@@ -77,7 +78,7 @@ begins_no_longer o [] h = absurd (omega arith)
 begins_no_longer [] (a ∷ x) h = refl
 begins_no_longer (b ∷ o) (a ∷ x) h = and_right (eqb b a) _ (begins_no_longer o x (omega arith))
 
-and_true : (v : Bool) → (v && true) ≡ v
+pub and_true : (v : Bool) → (v && true) ≡ v
 and_true true = refl
 and_true false = refl
 

@@ -11,7 +11,7 @@ pub mod Entering
 pub mod Turning
 pub mod Counting
 pub mod Asking
-pub mod Purging
+pub mod Outside
 pub mod Finding
 pub mod Unfelt
 pub mod Touching
@@ -24,6 +24,7 @@ pub mod Staying
 pub mod Empty
 pub mod Worked
 pub mod Edging
+pub mod Tabling
 pub mod Rolling
 pub mod Along
 pub mod Adding

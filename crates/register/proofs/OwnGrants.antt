@@ -36,7 +36,7 @@ found_in_row : (t : List ℕ) (book : Book) (row : ℕ) → position (is_at t) b
 unfolding found
 found_in_row t book row h = find_at (is_at t) book ∙ ap (slice_get book) (cond_some _ _ row h).1
 
--- what the entry in the first row of T becomes by a Grant is answered, and leaves a book, as the call named by T
+-- what the entry in the first row of T becomes by a Grant is answered, and leaves a book, as the call that names T
 spends_as_named : (t : List ℕ) (book : Book) (row : ℕ) (event : Event) → position (is_at t) book ≡ Some row
     → (thing : Option Entry) → slice_get book row ≡ thing
     → (answer_spent (option_and_then (with_next event) thing) ≡ answer_of (spending book t event))

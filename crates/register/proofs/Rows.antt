@@ -15,7 +15,7 @@ chosen true x y z e yes_so no_so = yes_so refl e
 chosen false x y z e yes_so no_so = no_so refl e
 
 -- what is found has the identifier that was looked for
-pub found_at : (identifier : List ℕ) (book : Book) (entry : Entry) → found identifier book ≡ Some entry → is_at identifier entry ≡ true
+found_at : (identifier : List ℕ) (book : Book) (entry : Entry) → found identifier book ≡ Some entry → is_at identifier entry ≡ true
 unfolding found
 found_at identifier [] entry e = absurd (none-some entry e)
 found_at identifier (row ∷ rows) entry e =
@@ -99,7 +99,7 @@ turned_behind t kind row rows apart = (cond-false _ _ _ apart, cond-false _ _ _ 
 pub at_or_not : {P : Type 0} (t : List ℕ) (row : Entry) → (is_at t row ≡ true → P) → (is_at t row ≡ false → P) → P
 at_or_not t row here apart = chosen (is_at t row) true false _ refl (λ e _. here e) (λ e _. apart e)
 
-found_none : (identifier : List ℕ) → found identifier [] ≡ None
+pub found_none : (identifier : List ℕ) → found identifier [] ≡ None
 unfolding found
 found_none identifier = refl
 

@@ -1,4 +1,4 @@
--- Runs and calls: a run leaves what its calls leave, and there is one run for whatever is sent.
+-- Runs and calls: a run leaves what its calls leave, there is one run for whatever is sent, and there are ways to read and answer lines.
 use Rattle.std.proofs.Common.{◌≡◌, ℕ, true, List, [], ◌∷◌, map, Some, None, Option, refl, ap, ◌∙◌, subst}
 use Rattle.std.specs.List.{cons_option, slice_get}
 use Rattle.register.specs.Book.{Book}

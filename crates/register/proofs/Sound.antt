@@ -29,6 +29,10 @@ pub record HasParent (book : Book) (row : Entry) : Type 0 where
   pub opened : is_open authority.kind ≡ true
   pub holder : is_authority row.kind ≡ false → row.holder ≡ authority.holder
 
+-- where the parent is still found as it was
+pub parent_again : {book after : Book} {row : Entry} (p : HasParent book row) → found p.parent after ≡ Some p.authority → HasParent after row
+parent_again p here = record { parent = p.parent; authority = p.authority; is = p.is; here = here; opened = p.opened; holder = p.holder }
+
 pub record Sound (founding : Founding) (book : Book) (given : List Gift) (declined : List (List ℕ)) : Type 0 where
   -- the root stands first
   pub rest : List Entry
@@ -53,8 +57,8 @@ pub counted_some : (entry : Entry) → 1 ≤ counted entry
 counted_some entry = omega arith
 
 -- the root is not the child of what has as many arcs
-pub root_apart : (founding : Founding) (parent : List ℕ) → length founding.root ≤ length parent → share parent (root_entry founding) ≡ 0
-root_apart founding parent long =
+pub root_takes_nothing : (founding : Founding) (parent : List ℕ) → length founding.root ≤ length parent → share parent (root_entry founding) ≡ 0
+root_takes_nothing founding parent long =
     chosen (is_child parent (root_entry founding)) true false _ refl
     (λ child _.
     let more = (parent_some _ parent (child_true parent (root_entry founding) child)).0 in

@@ -1,6 +1,5 @@
 -- No entry is ever removed, by any calls at any book.
 use Rattle.std.proofs.Common.{◌≡◌, ℕ, ◌⊎◌, inl, inr, true, false, List, [], ◌∷◌, Some, refl, sym, ap, ◌∙◌}
-use Rattle.std.proofs.lemmas.Bool.{both_ways}
 use Rattle.std.proofs.lemmas.Option.{same_Some}
 use Rattle.register.specs.declared.kind.Kind.{Kind}
 use Rattle.register.specs.declared.kind.Kind.TheVariants.{Panel, Retired, Offered, InHand, Open, Declined}
@@ -10,7 +9,7 @@ use Rattle.register.specs.Calls.{Call}
 use Rattle.register.specs.Rulings.{Ruling, refuses, enters, turns, tells, turned, book_after}
 use Rattle.register.specs.Questions.{Rules, ruling, after}
 use Rattle.register.specs.Beneath.{may_become, Becomes, EntriesStay}
-use Rattle.register.proofs.Identifiers.{same_true, same_itself}
+use Rattle.register.proofs.Identifiers.{same_true, apart}
 use Rattle.register.proofs.Rows.{chosen, of_kind, found_before, found_turned, found_turned_other}
 use Rattle.register.proofs.Changes.{change}
 use Rattle.register.proofs.Ruled.{Says, ruling_says}
@@ -65,8 +64,7 @@ stays_after rules book call (turns t kind answer) says identifier entry there =
       record { identifier = refl; holder = refl; quota = refl; kind = inr (change entry.kind says.event kind next).becomes },
     ))
     (λ other _.
-    let apart = λ (is : identifier ≡ t). both_ways _ other (ap (same identifier) (sym is) ∙ same_itself identifier) in
-    (entry, found_turned_other identifier t kind book apart ∙ there, unchanged entry))
+    (entry, found_turned_other identifier t kind book (apart identifier t other) ∙ there, unchanged entry))
 
 pub entries_stay : EntriesStay
 entries_stay rules book [] identifier entry there = (entry, there, unchanged entry)

@@ -25,7 +25,7 @@ abbrev pub ended_of : Ruling → Option (List ℕ)
 ended_of (turns t kind answer) = cond (is_declined kind) (Some t) None
 ended_of other = None
 
--- a call that gives nothing, or declines nothing, has no such ruling
+-- a call that gives nothing has no ruling that gives
 gift_none : (rules : Rules) (book : Book) (call : Call) (r : Ruling) → Says rules book call r
     → ((identifier : List ℕ) → gift_by call identifier ≡ None) → gift_of r ≡ None
 gift_none rules book call (refuses refusal) says none = refl
@@ -37,6 +37,7 @@ and_none : (o : Option (List ℕ)) → option_and {U = List ℕ} o None ≡ None
 and_none None = refl
 and_none (Some x) = refl
 
+-- a ruling that declines is answered with an identifier, by a call that declines
 ended_is : (rules : Rules) (book : Book) (call : Call) (r : Ruling) → Says rules book call r
     → option_and (identifier_in (by_call (answer_of r))) (declined_by call) ≡ ended_of r
 ended_is rules book call (refuses refusal) says = refl
@@ -49,6 +50,7 @@ ended_is rules book call (turns t kind answer) says =
     let nothing = says.ends ∙ cond-false _ _ _ kept in
     ap (option_and (identifier_in (by_call answer))) nothing ∙ and_none (identifier_in (by_call answer)) ∙ sym (cond-false _ _ _ kept))
 
+-- a call that declines nothing has no ruling that declines
 ended_none : (rules : Rules) (book : Book) (call : Call) (r : Ruling) → Says rules book call r → declined_by call ≡ None → ended_of r ≡ None
 ended_none rules book call (refuses refusal) says none = refl
 ended_none rules book call (enters entry) says none = refl
@@ -56,12 +58,12 @@ ended_none rules book call (turns t kind answer) says none = sym says.ends ∙ n
 ended_none rules book call (tells answer) says none = refl
 
 -- a Grant's decline that is done has ended its entry, and no other
-spent_is : (rules : Rules) (book : Book) (t : List ℕ) (lines : Lines) (r : Ruling) → Says rules book (decline_grant t) r
+decline_spent_is : (rules : Rules) (book : Book) (t : List ℕ) (lines : Lines) (r : Ruling) → Says rules book (decline_grant t) r
     → decline_in lines (declines_grant t) (handed_back (answer_of r)) ≡ ended_of r
-spent_is rules book t lines (refuses refusal) says = refl
-spent_is rules book t lines (enters entry) says = absurd (none-some _ (sym says.ends))
-spent_is rules book t lines (tells answer) says = absurd (none-some _ (sym says.ends))
-spent_is rules book t lines (turns other kind answer) says =
+decline_spent_is rules book t lines (refuses refusal) says = refl
+decline_spent_is rules book t lines (enters entry) says = absurd (none-some _ (sym says.ends))
+decline_spent_is rules book t lines (tells answer) says = absurd (none-some _ (sym says.ends))
+decline_spent_is rules book t lines (turns other kind answer) says =
     chosen (is_declined kind) true false _ refl
     (λ declined _. ap (λ answer. decline_in lines (declines_grant t) (handed_back answer)) (says.names declined) ∙ says.ends)
     (λ kept _. absurd (none-some _ (sym (says.ends ∙ cond-false _ _ _ kept))))
@@ -125,4 +127,4 @@ module _ (rules : Rules) (book : Book) (identified : Identified book) where
       (sym (gift_none rules book _ _ says (λ _. refl)), sym (ended_none rules book _ _ says refl))
   sent_tells lines (declines_grant t) =
       let says = ruling_says rules book (decline_grant t) in
-      (sym (gift_none rules book _ _ says (λ _. refl)), spent_is rules book t lines _ says)
+      (sym (gift_none rules book _ _ says (λ _. refl)), decline_spent_is rules book t lines _ says)

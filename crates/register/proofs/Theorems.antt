@@ -4,10 +4,10 @@ use Rattle.std.specs.List.{All, AllPairs}
 use Rattle.std.specs.Option.{option_and_then}
 use Rattle.std.proofs.lemmas.Bool.{both_ways}
 use Rattle.std.proofs.lemmas.Option.{none-some, same_Some}
-use Rattle.register.specs.Kinds.{is_authority}
 use Rattle.std.proofs.lemmas.List.Elements.{All-nil, All-from_recursion}
 use Rattle.oid.specs.Tree.{is_identifier, parent_of}
 use Rattle.oid.proofs.Tree.{some_arcs}
+use Rattle.register.specs.Kinds.{is_authority}
 use Rattle.register.specs.Book.{Entry, Book, is_at, found}
 use Rattle.register.specs.Left.{told_left}
 use Rattle.register.specs.Founding.{Founding, founding_refusal, root_entry, founded}
@@ -26,9 +26,9 @@ use Rattle.register.proofs.Ruled.{Says, ruling_says}
 use Rattle.register.proofs.Sound.{HasParent}
 use Rattle.register.proofs.Along.{run_sound, run_room, run_by_rule, Holds, calls_hold, good_book, good_quota, founded_sound}
 use Rattle.register.proofs.Empty.{refused_foundings, refused_book, empty_at_end, empty_gives, empty_roomy}
-use Rattle.register.proofs.Counting.{adds_up, has_room}
+use Rattle.register.proofs.Counting.{adds_up, makes_room}
 use Rattle.register.proofs.Adding.{found_first, told, quotas, once, pairs_apart}
-use Rattle.register.proofs.Rows.{chosen, found_identifier, found_all}
+use Rattle.register.proofs.Rows.{chosen, found_none, found_identifier, found_all}
 
 -- neighbours are unfelt where there is room along both runs
 unfelt : (lines : Lines) (founding : Founding) (other : Start) → Alike (at_founding founding) other
@@ -60,10 +60,6 @@ good_law lines founding identifier good run runs =
       quotas_told = told founding _ _ _ sound (good_book founding good);
       quotas_add_up = quotas founding _ _ _ sound (good_book founding good);
     }
-
-nothing_found : (identifier : List ℕ) → found identifier [] ≡ None
-unfolding found
-nothing_found identifier = refl
 
 nobody : (authority : List ℕ) (left : ℕ) → told_left authority [] ≡ Ok left → ⊥
 unfolding found
@@ -140,7 +136,7 @@ good_foundings founding identifier good calls =
     record {
       adds_up = all;
       few = omega (arith, all, quota);
-      never_full = λ call. never_full founding.rules _ call (has_room founding _ holds.gave holds.declined holds.sound quota);
+      never_full = λ call. never_full founding.rules _ call (makes_room founding _ holds.gave holds.declined holds.sound quota);
     }
 
 -- what holds of every book that calls leave behind a founding holds behind a good one, and of the empty book
@@ -175,7 +171,7 @@ panels_holders founding identifier calls =
     each_founding
     (λ book. (one : List ℕ) (panel : Entry) → found one book ≡ Some panel → is_authority panel.kind ≡ false → HasParentsHolder book one panel)
     founding identifier (panel_holder founding)
-    (λ one panel here is_panel. absurd (none-some panel (sym (nothing_found one) ∙ here))) calls
+    (λ one panel here is_panel. absurd (none-some panel (sym (found_none one) ∙ here))) calls
 
 pub entries_apart : EntriesApart
 entries_apart founding identifier calls =

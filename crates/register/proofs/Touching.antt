@@ -8,7 +8,7 @@ use Rattle.register.specs.Questions.{Rules, ruling}
 use Rattle.register.specs.Law.{is_within}
 use Rattle.register.proofs.Identifiers.{child_below, below_by_parent}
 use Rattle.register.proofs.Ruled.{Says, ruling_says}
-use Rattle.register.proofs.Purging.{Touches}
+use Rattle.register.proofs.Outside.{Touches}
 
 -- What a call enters or changes is below X where its place is at or below X, and only there.
 pub touches : (x : List ℕ) → 2 ≤ length x → (rules : Rules) (book : Book) (call : Call)

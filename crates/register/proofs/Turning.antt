@@ -13,20 +13,16 @@ use Rattle.register.specs.Rulings.{turned, Answer}
 use Rattle.register.specs.Founding.{Founding, root_entry}
 use Rattle.register.specs.Given.{Gift}
 use Rattle.register.specs.declared.kind.Kind.{Kind}
-use Rattle.register.proofs.Identifiers.{same_true, same_itself}
+use Rattle.register.proofs.Identifiers.{and_true, same_true, apart}
 use Rattle.register.proofs.Rows.{chosen, all_weaker, of_kind, found_turned, found_turned_other, turned_here, turned_behind, all_turned, map_turned, sum_turned}
 use Rattle.register.proofs.Shares.{share, used_is}
 use Rattle.register.proofs.Changes.{Change, change, is_declined}
 use Rattle.register.proofs.Ruled.{Turned, row_gift}
-use Rattle.register.proofs.Sound.{Sound, HasParent, is_declined_at}
+use Rattle.register.proofs.Sound.{Sound, HasParent, parent_again, is_declined_at}
 
 or_false : (v : Bool) → (v || false) ≡ v
 or_false true = refl
 or_false false = refl
-
-and_true : (v : Bool) → (v && true) ≡ v
-and_true true = refl
-and_true false = refl
 
 any_new : (identifier t : List ℕ) (v : Bool) → list_any (same identifier) (cons_option (cond v (Some t) None) []) ≡ (v && same identifier t)
 any_new identifier t true = or_false (same identifier t)
@@ -48,28 +44,22 @@ module _ (founding : Founding) (book : Book) (given : List Gift) (declined : Lis
         let is = is_it entry (ap (λ identifier. found identifier book) (sym same) ∙ e) in
         both_ways (is_open entry.kind) (ap (λ entry. is_open entry.kind) (sym is) ∙ changed.shut) opened
 
-    root_is_apart : is_at t (root_entry founding) ≡ false
-    root_is_apart =
+    root_is_other : is_at t (root_entry founding) ≡ false
+    root_is_other =
         false_from_ne_true (is_at t (root_entry founding)) (λ here.
         let is = turned_here t kind (root_entry founding) sound.rest here in
         open_apart t (root_entry founding) (ap (found t) sound.is ∙ is.1) refl refl)
 
     root_stays : turned t kind book ≡ root_entry founding ∷ turned t kind sound.rest
-    root_stays = ap (turned t kind) sound.is ∙ (turned_behind t kind (root_entry founding) sound.rest root_is_apart).0
+    root_stays = ap (turned t kind) sound.is ∙ (turned_behind t kind (root_entry founding) sound.rest root_is_other).0
 
     rest_found : (entry : Entry) → found t sound.rest ≡ Some entry → it.entry ≡ entry
     rest_found entry e =
-        is_it entry (ap (found t) sound.is ∙ (turned_behind t kind (root_entry founding) sound.rest root_is_apart).1 ∙ e)
+        is_it entry (ap (found t) sound.is ∙ (turned_behind t kind (root_entry founding) sound.rest root_is_other).1 ∙ e)
 
     parent_stays : (row : Entry) → HasParent book row → HasParent (turned t kind book) row
-    parent_stays row p = record {
-      parent = p.parent;
-      authority = p.authority;
-      is = p.is;
-      here = found_turned_other p.parent t kind book (open_apart p.parent p.authority p.here p.opened) ∙ p.here;
-      opened = p.opened;
-      holder = p.holder;
-    }
+    parent_stays row p =
+        parent_again p (found_turned_other p.parent t kind book (open_apart p.parent p.authority p.here p.opened) ∙ p.here)
 
     turned_has_parent : (entry : Entry) → found t sound.rest ≡ Some entry → HasParent (turned t kind book) entry
         → HasParent (turned t kind book) (of_kind kind entry)
@@ -109,8 +99,7 @@ module _ (founding : Founding) (book : Book) (given : List Gift) (declined : Lis
         let old = sound.within identifier it.entry (ap (λ identifier. found identifier book) (same_true identifier t own) ∙ it.here) in
         omega (arith, falls, used_is identifier book, used_is identifier (turned t kind book), old, ap (λ entry. entry.quota) is))
         (λ other _.
-        let apart = λ (is : identifier ≡ t). both_ways _ other (ap (same identifier) (sym is) ∙ same_itself identifier) in
-        let old = sound.within identifier row (sym (found_turned_other identifier t kind book apart) ∙ e) in
+        let old = sound.within identifier row (sym (found_turned_other identifier t kind book (apart identifier t other)) ∙ e) in
         omega (arith, falls, used_is identifier book, used_is identifier (turned t kind book), old))
 
     turned_ended : (identifier : List ℕ)
@@ -128,9 +117,8 @@ module _ (founding : Founding) (book : Book) (given : List Gift) (declined : Lis
         ap (λ v. v || (is_declined kind && same identifier t)) old ∙ ap (λ v. is_declined kind && v) own ∙ and_true (is_declined kind)
         ∙ sym (ap (λ identifier. is_declined_at (found identifier (turned t kind book))) is ∙ ap is_declined_at (found_turned t kind book it.entry it.here)))
         (λ other _.
-        let apart = λ (is : identifier ≡ t). both_ways _ other (ap (same identifier) (sym is) ∙ same_itself identifier) in
         ap (λ v. is_declined_at (found identifier book) || v) (and_right (is_declined kind) _ other) ∙ or_false _
-        ∙ sym (ap is_declined_at (found_turned_other identifier t kind book apart)))
+        ∙ sym (ap is_declined_at (found_turned_other identifier t kind book (apart identifier t other))))
 
     -- a change of kind keeps all of it
     pub turns_sound : Sound founding (turned t kind book) given (declined ++ cons_option (cond (is_declined kind) (Some t) None) [])

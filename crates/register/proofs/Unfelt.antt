@@ -20,7 +20,7 @@ use Rattle.register.proofs.Room.{HasRoom}
 use Rattle.register.proofs.Asking.{ask-cong, there_is-cong}
 use Rattle.register.proofs.Finding.{Finder, FindAlike, lowest_free-alike, claimed-alike}
 use Rattle.register.proofs.Rows.{found_identifier}
-use Rattle.register.proofs.Purging.{found_outside, children_outside}
+use Rattle.register.proofs.Outside.{found_outside, children_outside}
 
 module _ (x : List ℕ) (long : 2 ≤ length x) (book second : Book) (agree : outside x book ≡ outside x second) where
   found-same : (t : List ℕ) → below t x ≡ false → found t book ≡ found t second

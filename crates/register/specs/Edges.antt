@@ -1,19 +1,16 @@
 -- A second example: who may call, which kinds are wanted, and which question is put first.
-use Rattle.std.specs.Prelude.{ℕ, ◌≡◌, List, [], ◌∷◌, ◌++◌, map, Some, None, Ok, Err, Option, Result, ⊤}
-use Rattle.arc_rules.specs.Sets.{from_to}
+use Rattle.std.specs.Prelude.{ℕ, ◌≡◌, List, [], ◌∷◌, ◌++◌, map, Ok, Err, Result, ⊤}
+use Rattle.arc_rules.specs.Sets.{from_to, among}
 use Rattle.register.specs.Book.{Book}
 use Rattle.register.specs.Left.{told_left}
-use Rattle.register.specs.Calls.{Call, grant, claim, offer, accept, decline, retire, roll, collect, accept_grant, decline_grant, place_of}
+use Rattle.register.specs.Calls.{Call, grant, claim, offer, accept, decline, retire, roll, collect, accept_grant, decline_grant}
 use Rattle.register.specs.Rulings.{Answer, refused, named, listed, collected}
 use Rattle.register.specs.Questions.{Rules, answer, after_all}
-use Rattle.register.specs.Founding.{Founding, founding_refusal, founded, founding_number}
-use Rattle.register.specs.Runs.{Back, handed, done, number, handed_back}
+use Rattle.register.specs.Founding.{Founding, founded}
 use Rattle.register.specs.Example.{hall, hall_rules, hall_founding, below_hall, hall_calls, hall_panel, hall_roll}
 use Rattle.register.specs.declared.kind.Kind.TheVariants.{Panel, Retired}
 use Rattle.register.specs.declared.refusal.Refusal.{Refusal}
 use Rattle.register.specs.declared.refusal.Refusal.TheVariants.{NotInBook, WrongKind, NotHolder, TooDeep, TooLittleLeft, NoArc, ArcTaken, NotInHand}
-use Rattle.register.specs.declared.founding.FoundingRefusal.{FoundingRefusal}
-use Rattle.register.specs.declared.founding.FoundingRefusal.TheVariants.{QuotaTooLarge, NoHolder}
 
 -- each call gets its answer at the one book; no call follows another
 abbrev pub GetAnswers : Rules → Book → List (Call × Answer) → Type 0
@@ -44,10 +41,11 @@ hall_edges =
     -- 15 before 16: a retired panel as O, and a caller who is not its holder
     ++ all_refused WrongKind
     (grant 9 (below_hall 100) ∷ claim 9 (below_hall 100) 100 ∷ offer 9 (below_hall 100) 0 8 ∷ roll 9 (below_hall 100) 0 ∷ [])
-    -- 15: an accept, a decline and a collect of what is open and of a panel, by its holder
+    -- 15: an accept, a decline and a collect of what is open and of panels, retired or not, by the holder
     ++ all_refused WrongKind
     (accept 7 (below_hall 1) ∷ decline 7 (below_hall 1) ∷ collect 7 (below_hall 1)
-    ∷ accept 1 (below_hall 101) ∷ decline 1 (below_hall 101) ∷ collect 1 (below_hall 101) ∷ [])
+    ∷ accept 1 (below_hall 101) ∷ decline 1 (below_hall 101) ∷ collect 1 (below_hall 101)
+    ∷ accept 1 (below_hall 100) ∷ decline 1 (below_hall 100) ∷ collect 1 (below_hall 100) ∷ [])
     -- 15 before 16: the same by another
     ++ all_refused WrongKind
     (accept 9 (below_hall 1) ∷ decline 9 (below_hall 1) ∷ collect 9 (below_hall 1)
@@ -89,8 +87,9 @@ offered_book = after_all hall_rules (founded hall_founding) (offer 1 hall 2 8 �
 
 abbrev pub offered_edges : List (Call × Answer)
 offered_edges =
-    -- 16: an accept, a decline and a collect by the giver
-    all_refused NotHolder (accept 1 (below_hall 1) ∷ decline 1 (below_hall 1) ∷ collect 1 (below_hall 1) ∷ [])
+    -- 16: an accept, a decline and a collect by the giver, and by whoever else
+    all_refused NotHolder (accept 1 (below_hall 1) ∷ decline 1 (below_hall 1) ∷ collect 1 (below_hall 1)
+    ∷ accept 9 (below_hall 1) ∷ decline 9 (below_hall 1) ∷ collect 9 (below_hall 1) ∷ [])
     -- and by the holder whom the offer names
     ++ (accept 8 (below_hall 1), named (below_hall 1)) ∷ (decline 8 (below_hall 1), named (below_hall 1))
     ∷ (collect 8 (below_hall 1), collected 8 2)
@@ -204,36 +203,23 @@ bare_edges =
     ++ (offer 1 hall 1 8, refused TooLittleLeft) ∷ (offer 1 hall 0 8, named (below_hall 1))
     ∷ []
 
--- foundings of 2.999: 23 comes before 24, and the largest quota and the first and last holder are good
-abbrev pub hall_with : ℕ → ℕ → Founding
-hall_with holder quota = record hall_founding { holder = holder; quota = quota }
+-- 2.999 with the holder 7, the panel 0 and the authority 0: arc 0 is an arc like others, and the root has the founding's holder
+abbrev pub low_rules : Rules
+low_rules = record { panels = record { set = from_to 0 0 }; authorities = record { set = among (0 ∷ []) } }
 
-abbrev pub edge_foundings : List (Founding × Option FoundingRefusal)
-edge_foundings =
-    (hall_with 1 512, Some QuotaTooLarge) ∷ (hall_with 0 10, Some NoHolder) ∷ (hall_with 0 512, Some QuotaTooLarge)
-    ∷ (hall_with 65536 10, Some NoHolder) ∷ (hall_with 65536 512, Some QuotaTooLarge)
-    ∷ (hall_with 65535 511, None) ∷ (hall_with 1 0, None) ∷ []
+abbrev pub low_founding : Founding
+low_founding = record hall_founding { holder = 7; rules = low_rules }
+
+abbrev pub low_edges : List (Call × Answer)
+low_edges =
+    (grant 7 hall, named (below_hall 0)) ∷ (claim 7 hall 0, named (below_hall 0)) ∷ (offer 7 hall 0 8, named (below_hall 0))
+    ∷ (grant 1 hall, refused NotHolder) ∷ []
 
 -- what the register tells that these have left, or why it does not
 abbrev pub told : Book → List (List ℕ) → List (Result ℕ Refusal)
 told book identifiers = map (λ identifier. told_left identifier book) identifiers
 
--- the places of some calls: at O; at T's parent, with a Grant too; and none where T has two arcs
-abbrev pub edge_places : List (Call × Option (List ℕ))
-edge_places =
-    (grant 7 (below_hall 1), Some (below_hall 1)) ∷ (claim 1 hall 100, Some hall) ∷ (offer 1 hall 4 7, Some hall) ∷ (roll 1 hall 0, Some hall)
-    ∷ (accept 7 (below_hall 1), Some hall) ∷ (decline 7 (below_hall 1), Some hall) ∷ (retire 7 panel_of_7, Some (below_hall 1))
-    ∷ (collect 7 (below_hall 1), Some hall) ∷ (accept_grant (below_hall 1), Some hall) ∷ (decline_grant (below_hall 1), Some hall)
-    ∷ (retire 1 hall, None) ∷ []
-
--- what comes back of answers to calls that no line makes
-abbrev pub edge_backs : List (Answer × Back)
-edge_backs =
-    (collected 8 2, handed 8 2) ∷ (named hall, done) ∷ (refused NotInBook, number 14) ∷ (refused WrongKind, number 15)
-    ∷ (refused NotHolder, number 16) ∷ (refused NotInHand, number 22) ∷ []
-
--- The calls get these answers and have these places, authorities are told what they have left, and the foundings have these refusals and
--- numbers.
+-- The calls get these answers, and the register tells this of what authorities have left.
 pub record EdgeAnswers : Type 0 where
   pub after_ten_calls : GetAnswers hall_rules hall_book hall_edges
   pub with_an_offer : GetAnswers hall_rules offered_book offered_edges
@@ -244,6 +230,7 @@ pub record EdgeAnswers : Type 0 where
   pub granted : GetAnswers hall_rules granted_book granted_edges
   pub nothing_left : GetAnswers bare_rules (founded (bare_founding 0)) spent_edges
   pub no_arcs : GetAnswers bare_rules (founded (bare_founding 1)) bare_edges
+  pub lowest_arc : GetAnswers low_rules (founded low_founding) low_edges
   -- after the ten calls: the root, the authority below it, panels, retired or not, and what does not stand in the book
   pub left_after_ten_calls : told hall_book (hall ∷ below_hall 1 ∷ below_hall 101 ∷ below_hall 100 ∷ below_hall 3 ∷ [])
       ≡ Ok 2 ∷ Ok 3 ∷ Err WrongKind ∷ Err WrongKind ∷ Err NotInBook ∷ []
@@ -251,7 +238,3 @@ pub record EdgeAnswers : Type 0 where
   pub left_with_an_offer : told offered_book (hall ∷ below_hall 1 ∷ []) ≡ Ok 7 ∷ Ok 2 ∷ []
   pub left_with_a_grant : told collected_book (hall ∷ below_hall 1 ∷ []) ≡ Ok 7 ∷ Ok 2 ∷ []
   pub left_with_a_decline : told declined_book (hall ∷ below_hall 1 ∷ []) ≡ Ok 9 ∷ Ok 2 ∷ []
-  pub places : map (λ edge. place_of edge.0) edge_places ≡ map (λ edge. edge.1) edge_places
-  pub backs : map (λ edge. handed_back edge.0) edge_backs ≡ map (λ edge. edge.1) edge_backs
-  pub foundings : map (λ edge. founding_refusal edge.0) edge_foundings ≡ map (λ edge. edge.1) edge_foundings
-  pub numbers : map (λ edge. founding_number (founding_refusal edge.0)) edge_foundings ≡ 23 ∷ 24 ∷ 23 ∷ 24 ∷ 23 ∷ 0 ∷ 0 ∷ []

@@ -16,3 +16,4 @@ pub mod Rolls
 pub mod Grants
 pub mod Example
 pub mod Edges
+pub mod Tables

@@ -5,9 +5,9 @@ ghost use Rattle.register.specs.Example.{WorkedExample};
 ghost use Rattle.register.specs.Grants.{CollectsGiveOwn, OwnGrants, OwnGrantsStay};
 ghost use Rattle.register.specs.Law.{EveryRun, FoundedAlike};
 ghost use Rattle.register.specs.Rolls.{RollsInOrder};
+ghost use Rattle.register.specs.Tables.{WrittenTables};
 
 // In every run from every founding neighbours are unfelt, nothing is given twice, what is given is given by rule, and quotas add up.
-#[tactic(auto, using(crate::proofs::Theorems::every_run))]
 pub fn every_run()
     ensures { EveryRun }
 {}
@@ -79,13 +79,16 @@ pub fn own_grants_stay()
 {}
 
 // A worked example, as calls and their answers.
-#[tactic(auto, using(crate::proofs::Worked::worked_example))]
 pub fn worked_example()
     ensures { WorkedExample }
 {}
 
 // Answers at the edges: who may call, which kinds are wanted, and which question is put first.
-#[tactic(auto, using(crate::proofs::Edging::edge_answers))]
 pub fn edge_answers()
     ensures { EdgeAnswers }
+{}
+
+// Tables written out: places, numbers, the limits of a founding, Grants of any kind, and what comes back.
+pub fn written_tables()
+    ensures { WrittenTables }
 {}

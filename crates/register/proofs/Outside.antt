@@ -52,10 +52,10 @@ module _ (x : List ℕ) where
           not_from_false _ (below_by_parent entry.identifier x long ∙ ap (is_within x) (child_true o entry child) ∙ out)
 
   -- a change of kind at what is not below X is seen
-  turned_outside : (t : List ℕ) (kind : Kind) → below t x ≡ false → (book : Book) → outside x (turned t kind book) ≡ turned t kind (outside x book)
+  turned_seen : (t : List ℕ) (kind : Kind) → below t x ≡ false → (book : Book) → outside x (turned t kind book) ≡ turned t kind (outside x book)
   unfolding turned
-  turned_outside t kind out [] = refl
-  turned_outside t kind out (entry ∷ entries) = go (is_at t entry) refl (turned_outside t kind out entries)
+  turned_seen t kind out [] = refl
+  turned_seen t kind out (entry ∷ entries) = go (is_at t entry) refl (turned_seen t kind out entries)
     where
       changed : Entry
       changed = record entry { kind = kind }
@@ -74,10 +74,10 @@ module _ (x : List ℕ) where
           either false = rest
 
   -- and one below X is not
-  turned_within : (t : List ℕ) (kind : Kind) → below t x ≡ true → (book : Book) → outside x (turned t kind book) ≡ outside x book
+  turned_unseen : (t : List ℕ) (kind : Kind) → below t x ≡ true → (book : Book) → outside x (turned t kind book) ≡ outside x book
   unfolding turned
-  turned_within t kind within [] = refl
-  turned_within t kind within (entry ∷ entries) = go (is_at t entry) refl (turned_within t kind within entries)
+  turned_unseen t kind within [] = refl
+  turned_unseen t kind within (entry ∷ entries) = go (is_at t entry) refl (turned_unseen t kind within entries)
     where
       go : (here : Bool) → is_at t entry ≡ here → outside x (turned t kind entries) ≡ outside x entries
           → outside x (cond here (record entry { kind = kind } ∷ entries) (entry ∷ turned t kind entries)) ≡ outside x (entry ∷ entries)
@@ -100,7 +100,7 @@ module _ (x : List ℕ) where
   after_outside (enters entry) out book =
       filter-append (is_outside x) book (entry ∷ [])
       ∙ ap (λ more. outside x book ++ more) (cond-true (is_outside x entry) _ _ (not_from_false _ out))
-  after_outside (turns t kind answer) out book = turned_outside t kind out book
+  after_outside (turns t kind answer) out book = turned_seen t kind out book
   after_outside (tells answer) out book = refl
 
   -- and one on what is below X does nothing that is seen from there
@@ -109,5 +109,5 @@ module _ (x : List ℕ) where
   after_within (enters entry) within book =
       filter-append (is_outside x) book (entry ∷ [])
       ∙ ap (λ more. outside x book ++ more) (cond-false (is_outside x entry) _ _ (not_from_true _ within)) ∙ append-nil (outside x book)
-  after_within (turns t kind answer) within book = turned_within t kind within book
+  after_within (turns t kind answer) within book = turned_unseen t kind within book
   after_within (tells answer) within book = refl
