@@ -14,6 +14,7 @@ pub mod Law
 pub mod Beneath
 pub mod Rolls
 pub mod Grants
+pub mod Passing
 pub mod Example
 pub mod Edges
 pub mod Tables

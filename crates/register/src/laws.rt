@@ -4,6 +4,7 @@ ghost use Rattle.register.specs.Edges.{EdgeAnswers};
 ghost use Rattle.register.specs.Example.{WorkedExample};
 ghost use Rattle.register.specs.Grants.{CollectsGiveOwn, OwnGrants, OwnGrantsStay};
 ghost use Rattle.register.specs.Law.{EveryRun, FoundedAlike};
+ghost use Rattle.register.specs.Passing.{AllPass};
 ghost use Rattle.register.specs.Rolls.{RollsInOrder};
 ghost use Rattle.register.specs.Tables.{WrittenTables};
 
@@ -56,6 +57,11 @@ pub fn panels_holders()
 // No entry is ever removed, nothing of it but its kind changes, and that only in few ways.
 pub fn entries_stay()
     ensures { EntriesStay }
+{}
+
+// A call is answered yes exactly when each of its questions is.
+pub fn all_pass()
+    ensures { AllPass }
 {}
 
 // A roll lists the children with arcs from one upwards, each arc once, in ascending order.
