@@ -9,15 +9,11 @@ use Rattle.arc_rules.proofs.Theorems.{one_answer}
 use Rattle.register.specs.Book.{Entry, is_taken}
 use Rattle.register.specs.Free.{in_set, untaken, free_arc}
 use Rattle.register.specs.Rulings.{Ruling}
-use Rattle.register.specs.Questions.{lowest_free, claimed}
+use Rattle.register.specs.Questions.{Finder, lowest_free, claimed}
 use Rattle.register.specs.declared.refusal.Refusal.TheVariants.{NoArc, ArcTaken}
 use Rattle.register.proofs.Asking.{ask-cong, there_is-cong}
 
--- the questions that find an arc among children, before those that follow
-abbrev pub Finder : Type 0
-Finder = List Entry → (ℕ → Ruling) → Ruling
-
--- two of them come to the same, where what follows does
+-- two ways to find an arc come to the same, where what follows does
 abbrev pub FindAlike : Finder → Finder → Type 0
 FindAlike one other = (children : List Entry) (others more : ℕ → Ruling) → ((arc : ℕ) → others arc ≡ more arc)
     → one children others ≡ other children more

@@ -13,12 +13,11 @@ use Rattle.register.specs.Left.{left}
 use Rattle.register.specs.Free.{in_set, untaken, free_arc}
 use Rattle.register.specs.Order.{in_order, from_arc}
 use Rattle.register.specs.Rulings.{Answer, refused, named, listed, collected, Ruling, enters, tells, answer_of, ask, there_is}
-use Rattle.register.specs.Questions.{Rules, as_holder, lowest_free, claimed, giving, panel_below, offer_below, turning, spending, is_held_by, holds_parent}
+use Rattle.register.specs.Questions.{Rules, Finder, as_holder, lowest_free, claimed, giving, panel_below, offer_below, turning, spending, is_held_by, holds_parent}
 use Rattle.std.specs.Option.{option_map, option_and_then}
 use Rattle.std.specs.List.{slice_get}
 use Rattle.register.specs.Grants.{Grant, with_next, spent, answer_spent}
 use Rattle.register.specs.Passing.{IsInHand, Holds, MayGive, IsFree, Stands, IsOfferedTo, IsPanelOf, Passes, AllPass}
-use Rattle.register.proofs.Finding.{Finder}
 use Rattle.register.specs.declared.kind.Kind.{Kind}
 use Rattle.register.specs.declared.kind.Kind.TheVariants.{Panel, Retired, Offered, InHand, Open, Declined}
 use Rattle.register.specs.declared.event.Event.{Event}

@@ -14,7 +14,7 @@ use Rattle.register.specs.Left.{counted, left}
 use Rattle.register.specs.Free.{untaken}
 use Rattle.register.specs.Calls.{Call, grant, claim, offer, accept, decline, retire, roll, collect, accept_grant, decline_grant, place_of}
 use Rattle.register.specs.Rulings.{Answer, refused, named, Ruling, refuses, enters, turns, tells, ask, there_is}
-use Rattle.register.specs.Questions.{Rules, as_holder, lowest_free, claimed, giving, panel_below, offer_below, turning, spending, ruling}
+use Rattle.register.specs.Questions.{Rules, Finder, as_holder, lowest_free, claimed, giving, panel_below, offer_below, turning, spending, ruling}
 use Rattle.register.specs.Runs.{identifier_in, by_call}
 use Rattle.register.specs.Given.{Gift, gift_by, declined_by}
 use Rattle.register.specs.Law.{set_for, quota_in}
@@ -116,7 +116,7 @@ module _ (rules : Rules) (book : Book) (call : Call) where
       there_is_says _ _ _ tt (λ authority here. ask_says _ _ _ (λ _. tt) (λ opened. ask_says _ _ _ (λ _. tt) (λ _. known authority here opened)))
 
   -- the arc of a gift is one of the set that no child has, however it is found
-  abbrev Finds : ArcSet → (List Entry → (ℕ → Ruling) → Ruling) → Type 0
+  abbrev Finds : ArcSet → Finder → Type 0
   Finds set find_arc = (siblings : List Entry) (others : ℕ → Ruling)
       → ((arc : ℕ) → arc ≤ arc_limit → set arc ≡ true → is_taken arc siblings ≡ false → Says rules book call (others arc))
       → Says rules book call (find_arc siblings others)
@@ -135,7 +135,7 @@ module _ (rules : Rules) (book : Book) (call : Call) where
       let both = and_parts (is_arc arc) (rule.set arc) inside in
       known arc (leb-true arc arc_limit both.0) both.1 (not-true (is_taken arc siblings) untaken)))
 
-  giving_says : (set : ArcSet) (holder : ℕ) (o : List ℕ) (needed : ℕ) (find_arc : List Entry → (ℕ → Ruling) → Ruling) (made : Entry → ℕ → Entry)
+  giving_says : (set : ArcSet) (holder : ℕ) (o : List ℕ) (needed : ℕ) (find_arc : Finder) (made : Entry → ℕ → Entry)
       → 1 ≤ needed → Finds set find_arc
       → ((authority : Entry) (arc : ℕ) → Asked book o needed set authority arc → Entered rules book call (made authority arc))
       → Says rules book call (giving book holder o needed find_arc made)

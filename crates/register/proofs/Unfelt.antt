@@ -10,7 +10,7 @@ use Rattle.register.specs.Left.{used, left}
 use Rattle.register.specs.Order.{in_order, from_arc}
 use Rattle.register.specs.Calls.{Call, grant, claim, offer, accept, decline, retire, roll, collect, accept_grant, decline_grant, place_of}
 use Rattle.register.specs.Rulings.{enters, turns, tells, Answer, named, listed, ask, there_is}
-use Rattle.register.specs.Questions.{Rules, as_holder, giving, panel_below, offer_below, turning, is_held_by, spending, ruling}
+use Rattle.register.specs.Questions.{Rules, Finder, as_holder, giving, panel_below, offer_below, turning, is_held_by, spending, ruling}
 use Rattle.register.specs.Law.{is_within, outside}
 use Rattle.register.specs.declared.event.Event.{Event}
 use Rattle.register.specs.declared.event.Event.TheVariants.{Accept, Decline, Retire, Collect, AcceptGrant, DeclineGrant}
@@ -18,7 +18,7 @@ use Rattle.register.specs.declared.refusal.Refusal.TheVariants.{NotInBook, Wrong
 use Rattle.register.proofs.Identifiers.{below_by_parent}
 use Rattle.register.proofs.Room.{HasRoom}
 use Rattle.register.proofs.Asking.{ask-cong, there_is-cong}
-use Rattle.register.proofs.Finding.{Finder, FindAlike, lowest_free-alike, claimed-alike}
+use Rattle.register.proofs.Finding.{FindAlike, lowest_free-alike, claimed-alike}
 use Rattle.register.proofs.Rows.{found_identifier}
 use Rattle.register.proofs.Outside.{found_outside, children_outside}
 

@@ -26,6 +26,10 @@ as_holder book holder o others =
     ask WrongKind (is_open authority.kind) (
     ask NotHolder (holder == authority.holder) (others authority)))
 
+-- the questions that find an arc beside some children, put before those that follow
+abbrev pub Finder : Type 0
+Finder = List Entry → (ℕ → Ruling) → Ruling
+
 -- 19. Is there an arc in the rule's set that no child of O has? The lowest is taken.
 abbrev pub lowest_free : Meaning → List Entry → (ℕ → Ruling) → Ruling
 lowest_free rule children others = there_is NoArc (free_arc rule.set children) others
@@ -36,7 +40,7 @@ claimed rule arc children others = ask NoArc (in_set rule.set arc) (ask ArcTaken
 
 -- What grant, claim and offer share. After 14 to 16: 17. Has the new identifier at most 16 arcs? 18. Has O left what is needed?
 -- 19 and 20 find the arc. 21. Has the book fewer than 512 entries?
-abbrev pub giving : Book → ℕ → List ℕ → ℕ → (List Entry → (ℕ → Ruling) → Ruling) → (Entry → ℕ → Entry) → Ruling
+abbrev pub giving : Book → ℕ → List ℕ → ℕ → Finder → (Entry → ℕ → Entry) → Ruling
 giving book holder o needed find_arc made =
     as_holder book holder o (λ authority.
     ask TooDeep (nat_le (length o + 1) most_arcs) (
