@@ -1,19 +1,20 @@
 -- The tables of the third example.
-use Rattle.std.proofs.Common.{◌≡◌, map, refl, ap, ◌∙◌}
+use Rattle.std.proofs.Common.{◌≡◌, map, refl, ap, ◌∙◌, [], ◌∷◌}
 use Rattle.std.specs.Option.{option_map, option_and_then}
 use Rattle.std.proofs.lemmas.Bool.{cond-true, cond-false}
-use Rattle.register.specs.Book.{found}
+use Rattle.register.specs.Book.{found, parent_in}
 use Rattle.register.specs.Calls.{collect, accept_grant, place_of}
 use Rattle.register.specs.Rulings.{refused, named, collected, ask, there_is}
 use Rattle.register.specs.Questions.{answer}
 use Rattle.register.specs.Runs.{handed_back, written, line_answer}
 use Rattle.register.specs.Grants.{spent, answer_spent}
-use Rattle.register.specs.Example.{hall_rules, below_hall}
-use Rattle.register.specs.Edges.{offered_book}
+use Rattle.register.specs.Example.{hall, hall_rules, below_hall}
+use Rattle.register.specs.Edges.{panel_of_7, offered_book}
 use Rattle.register.specs.Tables.{some_grants, WrittenTables}
 use Rattle.register.specs.declared.event.Event.TheVariants.{AcceptGrant}
 use Rattle.register.specs.declared.kind.Kind.TheVariants.{Offered, InHand}
 use Rattle.register.specs.declared.refusal.Refusal.TheVariants.{NotInHand}
+use Rattle.register.proofs.Worked.{all_calls}
 use Rattle.register.proofs.Edging.{with_offer, after_an_offer, after_a_collect}
 
 accepts_in_hand : answer hall_rules (with_offer InHand) (accept_grant (below_hall 1)) ≡ named (below_hall 1)
@@ -29,11 +30,14 @@ unfolding found there_is ask
 collects_offered = refl
 
 pub written_tables : WrittenTables
+unfolding found
 written_tables = record {
   places = refl;
   numbers = refl;
   foundings = refl;
   founding_numbers = refl;
+  limits = refl;
+  parents = ap (λ book. map (λ t. parent_in t book) (panel_of_7 ∷ hall ∷ [])) all_calls.leaves;
   backs = refl;
   identifiers = refl;
   grants = ap (λ book. map (λ row. answer_spent (spent 5 book row.0 AcceptGrant)) some_grants) after_a_collect;

@@ -1,15 +1,18 @@
 -- A third example, of tables written out: places, numbers, the limits of a founding, Grants of any kind, and what comes back.
 use Rattle.std.specs.Prelude.{ℕ, ◌≡◌, List, [], ◌∷◌, map, true, false, Some, None, Option}
+use Rattle.oid.specs.Tree.{most_arcs}
+use Rattle.register.specs.Book.{Entry, most_entries, parent_in}
 use Rattle.register.specs.Calls.{Call, grant, claim, offer, accept, decline, retire, roll, collect, accept_grant, decline_grant, place_of}
 use Rattle.register.specs.Rulings.{Answer, refused, named, listed, collected}
 use Rattle.register.specs.Questions.{after}
 use Rattle.register.specs.Refusals.{number_of}
-use Rattle.register.specs.Founding.{Founding, founding_refusal, founding_number}
+use Rattle.register.specs.Founding.{Founding, most_quota, first_holder, last_holder, founding_refusal, founding_number}
 use Rattle.register.specs.Runs.{Back, handed, done, number, handed_back, written, too_short, Lines, line, collects, accepts_grant, back_at, made_by, after_made, placed, LineAnswer, unread, by_call, identifier_in}
 use Rattle.register.specs.Grants.{Grant, spent, answer_spent}
 use Rattle.register.specs.Example.{hall, hall_rules, hall_founding, below_hall}
-use Rattle.register.specs.Edges.{panel_of_7, offered_book, collected_book}
+use Rattle.register.specs.Edges.{hall_book, panel_of_7, offered_book, collected_book}
 use Rattle.register.specs.declared.event.Event.TheVariants.{AcceptGrant}
+use Rattle.register.specs.declared.kind.Kind.TheVariants.{Open}
 use Rattle.register.specs.declared.refusal.Refusal.{Refusal}
 use Rattle.register.specs.declared.refusal.Refusal.TheVariants.{NotInBook, WrongKind, NotHolder, TooDeep, TooLittleLeft, NoArc, ArcTaken, BookFull, NotInHand}
 use Rattle.register.specs.declared.founding.FoundingRefusal.{FoundingRefusal}
@@ -77,12 +80,20 @@ pub record SomeExchanges (lines : Lines) : Type 0 where
   pub unread_back : (bytes : List ℕ) (page : ℕ) → lines.has_room page ≡ true → lines.call_of bytes ≡ None
       → back_at lines hall_rules offered_book (line bytes page) ≡ written (lines.bytes_of bytes page unread)
 
+-- 2.999.1 after the ten calls
+abbrev pub hall_authority : Entry
+hall_authority = record { identifier = below_hall 1; kind = Open; holder = 7; quota = 4 }
+
 -- The definitions have these tables.
 pub record WrittenTables : Type 0 where
   pub places : map (λ row. place_of row.0) some_places ≡ map (λ row. row.1) some_places
   pub numbers : map number_of all_refusals ≡ 14 ∷ 15 ∷ 16 ∷ 17 ∷ 18 ∷ 19 ∷ 20 ∷ 21 ∷ 22 ∷ []
   pub foundings : map (λ row. founding_refusal row.0) some_foundings ≡ map (λ row. row.1) some_foundings
   pub founding_numbers : map (λ row. founding_number (founding_refusal row.0)) some_foundings ≡ 23 ∷ 24 ∷ 23 ∷ 24 ∷ 23 ∷ 0 ∷ 0 ∷ []
+  -- the most entries, the largest quota, the first and the last holder, and the most arcs
+  pub limits : most_entries ∷ most_quota ∷ first_holder ∷ last_holder ∷ most_arcs ∷ [] ≡ 512 ∷ 511 ∷ 1 ∷ 65535 ∷ 16 ∷ []
+  -- the parent of a panel, and the root's, which does not stand in the book
+  pub parents : map (λ t. parent_in t hall_book) (panel_of_7 ∷ hall ∷ []) ≡ Some hall_authority ∷ None ∷ []
   pub backs : map (λ row. handed_back row.0) some_backs ≡ map (λ row. row.1) some_backs
   pub identifiers : map (λ row. identifier_in row.0) some_answers ≡ map (λ row. row.1) some_answers
   pub grants : map (λ row. answer_spent (spent 5 collected_book row.0 AcceptGrant)) some_grants ≡ map (λ row. row.1) some_grants
