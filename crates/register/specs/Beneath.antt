@@ -29,8 +29,8 @@ OneRun = (lines : Lines) (rules : Rules) (book : Book) (sent : List Sent)
     → (run : List Exchange) × Runs lines rules book run × (map (λ exchange. exchange.sent) run ≡ sent)
     × ((other : List Exchange) → Runs lines rules book other → map (λ exchange. exchange.sent) other ≡ sent → other ≡ run)
 
--- Lines can be read and answered so: for any calls there is a way by which a line of one byte makes the call of that number, on a page
--- that is long enough.
+-- Lines can be read and answered so: for any calls there is a way by which a line of one number makes the call at that place in the list,
+-- counted from 0, and every page is long enough.
 abbrev pub SomeLines : Type 0
 SomeLines = (calls : List Call) → (lines : Lines)
     × ((number page : ℕ) → (lines.call_of (number ∷ []) ≡ slice_get calls number) × (lines.has_room page ≡ true))

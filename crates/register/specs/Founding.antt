@@ -6,14 +6,14 @@ use Rattle.register.specs.declared.kind.Kind.TheVariants.{Open}
 use Rattle.register.specs.declared.founding.FoundingRefusal.{FoundingRefusal}
 use Rattle.register.specs.declared.founding.FoundingRefusal.TheVariants.{QuotaTooLarge, NoHolder}
 
--- what a register is founded with; its serial is compared with those of Grants alone
+-- What a register is founded with. It has a serial besides, which matters to Grants alone, and stands there.
 pub record Founding : Type 0 where
   pub root : List ℕ
   pub holder : ℕ
   pub quota : ℕ
   pub rules : Rules
 
--- the largest quota
+-- the largest quota, one less than the most entries: the root has an entry too
 abbrev pub most_quota : ℕ
 most_quota = 511
 

@@ -87,5 +87,6 @@ GrantsPass = (serial : ℕ) (book : Book) (grant : Grant) (identifier : List ℕ
     × ((answer_spent (spent serial book grant DeclineGrant) ≡ named identifier)
     ↔ ((in_hand : IsInHand serial book grant) × (in_hand.entry.identifier ≡ identifier)))
 
+-- All calls pass so, and all Grants.
 abbrev pub AllPass : Type 0
 AllPass = ((rules : Rules) (book : Book) → Passes rules book) × GrantsPass
