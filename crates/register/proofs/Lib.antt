@@ -27,6 +27,10 @@ pub mod Worked
 pub mod Edging
 pub mod Tabling
 pub mod Rolling
+pub mod Stored
+pub mod Children
+pub mod Nearest
+pub mod Freed
 pub mod Along
 pub mod Adding
 pub mod Theorems

@@ -13,7 +13,7 @@ use Rattle.register.specs.Rulings.{Answer, listed, Ruling, answer_of, ask, there
 use Rattle.register.specs.declared.refusal.Refusal.{Refusal}
 
 -- where a child is put: before the next, in its place, or further on
-put_cases : (Holds : List Entry → Type 0) (child next : Entry) (others : List Entry)
+pub put_cases : (Holds : List Entry → Type 0) (child next : Entry) (others : List Entry)
     → (arc_of_child child < arc_of_child next → Holds (child ∷ next ∷ others))
     → (arc_of_child child ≡ arc_of_child next → Holds (child ∷ others))
     → (arc_of_child next < arc_of_child child → Holds (next ∷ put child others))

@@ -21,10 +21,14 @@ pub record Grant : Type 0 where
 abbrev pub with_next : Event → Entry → Option Entry
 with_next event entry = option_map (λ kind. record entry { kind = kind }) (next_kind entry.kind event)
 
+-- what an event makes of the entry in a row; none where there is no such row, or the event changes no entry of that kind
+abbrev pub next_in : Book → ℕ → Event → Option Entry
+next_in book row event = option_and_then (with_next event) (slice_get book row)
+
 -- 22. Has the Grant this register's serial, and is its entry in hand? Then this is what the entry becomes; none for a no. The event is one
 -- of a Grant's: those change only what is in hand.
 abbrev pub spent : ℕ → Book → Grant → Event → Option Entry
-spent serial book grant event = cond (grant.serial == serial) (option_and_then (with_next event) (slice_get book grant.row)) None
+spent serial book grant event = cond (grant.serial == serial) (next_in book grant.row event) None
 
 -- The answer to a spent Grant, and the book after it. After a no the Grant is still there.
 abbrev pub answer_spent : Option Entry → Answer

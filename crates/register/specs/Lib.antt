@@ -14,6 +14,8 @@ pub mod Law
 pub mod Beneath
 pub mod Rolls
 pub mod Grants
+pub mod Table
+pub mod Registers
 pub mod Passing
 pub mod Example
 pub mod Edges

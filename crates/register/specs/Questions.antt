@@ -38,15 +38,18 @@ lowest_free rule children others = there_is NoArc (free_arc rule.set children) o
 abbrev pub claimed : Meaning → ℕ → List Entry → (ℕ → Ruling) → Ruling
 claimed rule arc children others = ask NoArc (in_set rule.set arc) (ask ArcTaken (not (is_taken arc children)) (others arc))
 
+-- 21. Has the book fewer than 512 entries? Then the new entry is entered.
+abbrev pub entering : Book → Entry → Ruling
+entering book entry = ask BookFull (nat_lt (length book) most_entries) (enters entry)
+
 -- What grant, claim and offer share. After 14 to 16: 17. Has the new identifier at most 16 arcs? 18. Has O left what is needed?
--- 19 and 20 find the arc. 21. Has the book fewer than 512 entries?
+-- 19 and 20 find the arc, and 21 comes last.
 abbrev pub giving : Book → ℕ → List ℕ → ℕ → Finder → (Entry → ℕ → Entry) → Ruling
 giving book holder o needed find_arc made =
     as_holder book holder o (λ authority.
     ask TooDeep (nat_le (length o + 1) most_arcs) (
     ask TooLittleLeft (nat_le needed (left authority book)) (
-    find_arc (children o book) (λ arc.
-    ask BookFull (nat_lt (length book) most_entries) (enters (made authority arc))))))
+    find_arc (children o book) (λ arc. entering book (made authority arc)))))
 
 -- a new panel, whose holder is its parent's
 abbrev pub panel_below : List ℕ → Entry → ℕ → Entry

@@ -3,11 +3,19 @@
 
 pub mod event;
 pub mod founding;
+mod free;
 pub mod kind;
 pub mod laws;
+mod left;
+mod order;
 pub mod refusal;
+pub mod register;
+mod row;
+mod table;
 
 pub use event::Event;
-pub use founding::FoundingRefusal;
+pub use founding::{Founding, FoundingRefusal};
 pub use kind::Kind;
 pub use refusal::Refusal;
+pub use register::Register;
+pub use table::MOST_ENTRIES;

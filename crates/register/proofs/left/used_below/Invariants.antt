@@ -1,0 +1,13 @@
+use Rattle.std.proofs.Common.{◌≡◌, ◌≤◌, ◌*◌, ◌^◌, take}
+use Rattle.oid.specs.Meaning.{arcs_of}
+use Rattle.register.specs.Book.{children}
+use Rattle.register.specs.Left.{used}
+use Rattle.register.specs.Table.{book_in}
+use Rattle.register.proofs.left.used_below.Given as goal
+
+-- what the children among the first rows have used up, and that it cannot be too much
+abbrev pub invariant-loop-row : goal.invariant-loop-row
+invariant-loop-row l = record {
+  sum : l.used ≡ used (children (arcs_of l.authority) (book_in (take l.row-index l.rows)));
+  bound : l.used ≤ l.row-index * 2 ^ 32;
+}

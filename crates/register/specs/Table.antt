@@ -1,0 +1,24 @@
+-- The table of rows that a register keeps: the book that it stands for.
+use Rattle.std.specs.Prelude.{ℕ, Bool, true, List, map, nat_lt, Some, None, Option, unwrap_or}
+use Rattle.oid.specs.Meaning.{arcs_of}
+use Rattle.register.specs.Book.{Entry, Book, arc_of_child}
+use Rattle.register.specs.Grants.{with_next}
+use Rattle.register.specs.declared.event.Event.{Event}
+use Rattle.register.specs.declared.row.Row.{Row}
+
+-- the entry that a row stands for
+abbrev pub entry_of : Row → Entry
+entry_of row = record { identifier = arcs_of row.identifier; kind = row.kind; holder = row.holder; quota = row.quota }
+
+-- the book of some rows
+abbrev pub book_in : List Row → Book
+book_in rows = map entry_of rows
+
+-- an entry after an event: with its next kind, or as it was
+abbrev pub turned_entry : Event → Entry → Entry
+turned_entry event entry = unwrap_or (with_next event entry) entry
+
+-- an arc is below that of the lowest child so far, if there is one
+abbrev pub is_lower : ℕ → Option Entry → Bool
+is_lower arc None = true
+is_lower arc (Some lowest) = nat_lt arc (arc_of_child lowest)

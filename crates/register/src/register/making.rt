@@ -1,0 +1,49 @@
+// A register founded.
+ghost use Rattle.std.specs.Prelude.{◌≡◌, IfOk};
+ghost use Rattle.register.specs.Founding.{founding_refusal};
+ghost use Rattle.register.specs.Law.{Begins, at_founding};
+ghost use Rattle.register.specs.Registers.{founding_of, start_of, refusal_of, serial_of};
+
+use super::Register;
+use crate::founding::Founding;
+use crate::kind::Kind;
+use crate::row::Row;
+use crate::table::MOST_ENTRIES;
+use arc_rules::ArcRule;
+use std::alloc::{AllocError, Global};
+
+impl<P: ArcRule + Drop, A: ArcRule + Drop> Register<P, A> {
+    // The register that is so founded, empty where the founding is refused. Every run starts here. An error is want of memory.
+    pub fn founded(alloc: Global, founding: Founding<P, A>) -> Result<Self, AllocError>
+        ensures start { IfOk result (λ register. start_of P.means A.means register ≡ at_founding (founding_of P.means A.means founding)) }
+        ensures begins { IfOk result (λ register. Begins (start_of P.means A.means register)) }
+        ensures refusal { IfOk result (λ register. refusal_of register ≡ founding_refusal (founding_of P.means A.means founding)) }
+        ensures serial { IfOk result (λ register. serial_of register ≡ founding.serial) }
+    {
+        let refused_for = founding.refusal();
+        let Founding {
+            root,
+            holder,
+            quota,
+            serial,
+            panels,
+            authorities,
+        } = founding;
+        let mut rows = Vec::with_capacity(alloc, MOST_ENTRIES)?;
+        if refused_for.is_none() {
+            rows.push_reserved(Row {
+                identifier: root,
+                kind: Kind::Open,
+                holder,
+                quota,
+            });
+        }
+        Ok(Register {
+            rows,
+            panels,
+            authorities,
+            serial,
+            refused_for,
+        })
+    }
+}
