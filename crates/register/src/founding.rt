@@ -48,7 +48,7 @@ impl<P: ArcRule, A: ArcRule> Founding<P, A> {
         if self.quota > MOST_QUOTA {
             return Some(FoundingRefusal::QuotaTooLarge);
         }
-        if self.holder < FIRST_HOLDER || self.holder > LAST_HOLDER {
+        if !(FIRST_HOLDER..=LAST_HOLDER).contains(&self.holder) {
             return Some(FoundingRefusal::NoHolder);
         }
         None

@@ -12,6 +12,8 @@ pub mod refusal;
 pub mod register;
 mod row;
 mod table;
+#[cfg(test)]
+mod tests;
 
 pub use event::Event;
 pub use founding::{Founding, FoundingRefusal};

@@ -16,7 +16,7 @@ pub(crate) fn child_from(rows: &[Row], authority: &Identifier, from: Arc) -> Opt
     let mut lowest = None;
     for row in rows {
         let arc = row.arc();
-        if arc >= from && is_lower(arc, lowest) && row.is_child(authority) {
+        if arc >= from && is_lower(arc, &lowest) && row.is_child(authority) {
             lowest = Some(*row);
         }
     }
@@ -24,8 +24,11 @@ pub(crate) fn child_from(rows: &[Row], authority: &Identifier, from: Arc) -> Opt
 }
 
 // Whether an arc is below that of the lowest child so far.
-fn is_lower(arc: Arc, lowest: Option<Row>) -> bool
-    ensures { result ≡ is_lower arc (option_map entry_of lowest) }
+fn is_lower(arc: Arc, lowest: &Option<Row>) -> bool
+    ensures { result ≡ is_lower arc (option_map entry_of lowest.now) }
 {
-    lowest.is_none_or(|least| arc < least.arc())
+    match lowest {
+        Some(least) => arc < least.arc(),
+        None => true,
+    }
 }

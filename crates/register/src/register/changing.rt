@@ -1,8 +1,8 @@
 // How the table of a register changes: a row is entered, or gets another kind.
-ghost use Rattle.std.specs.Prelude.{◌≡◌, ◌<◌, is_some, vec_len};
+ghost use Rattle.std.specs.Prelude.{◌≡◌, None, is_some};
 ghost use Rattle.register.specs.Grants.{next_in, book_spent};
 ghost use Rattle.register.specs.Questions.{entering};
-ghost use Rattle.register.specs.Registers.{book_of, KeepsRest, answer_named};
+ghost use Rattle.register.specs.Registers.{book_of, refusal_of, KeepsRest, answer_named};
 ghost use Rattle.register.specs.Rulings.{answer_of, book_after};
 ghost use Rattle.register.specs.Table.{entry_of};
 
@@ -14,9 +14,10 @@ use crate::table::MOST_ENTRIES;
 use oid::Identifier;
 
 impl<P, A> Register<P, A> {
-    // Enters a row behind the others, and gives its identifier. Has the book fewer than 512 entries? If not, it is refused.
+    // Enters a row behind the others, in a register that was not refused, and gives its identifier. Has the book fewer than 512
+    // entries? If not, the row is refused.
     pub(crate) fn enter(&mut self, row: Row) -> Result<Identifier, Refusal>
-        requires { 0 < vec_len self.old.rows }
+        requires { refusal_of self.old ≡ None }
         ensures answer { answer_named result ≡ answer_of (entering (book_of self.old) (entry_of row)) }
         ensures book { book_of self.new ≡ book_after (entering (book_of self.old) (entry_of row)) (book_of self.old) }
         ensures rest { KeepsRest self.old self.new }
