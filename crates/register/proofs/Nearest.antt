@@ -4,7 +4,7 @@ use Rattle.std.proofs.lemmas.Bool.{cond-true, cond-false, lt-ltb, le-ltb, ltb-tr
 use Rattle.std.proofs.lemmas.List.Elements.{filter-append}
 use Rattle.register.specs.Book.{Entry, Book, is_child, children, arc_of_child}
 use Rattle.register.specs.Order.{put, in_order, from_arc}
-use Rattle.register.specs.Table.{is_lower}
+use Rattle.register.specs.Rows.{is_lower}
 use Rattle.register.proofs.Rolling.{put_cases}
 
 -- the first of a list whose arc is not below the one given

@@ -10,7 +10,7 @@ use Rattle.register.specs.Book.{Entry, most_entries, is_at, found}
 use Rattle.register.specs.Rulings.{refuses, enters, ask}
 use Rattle.register.specs.Questions.{entering}
 use Rattle.register.specs.Grants.{with_next, next_in, book_spent}
-use Rattle.register.specs.Table.{entry_of, book_in, turned_entry}
+use Rattle.register.specs.Rows.{entry_of, book_in, turned_entry}
 use Rattle.register.specs.declared.event.Event.{Event}
 use Rattle.register.specs.declared.refusal.Refusal.TheVariants.{BookFull}
 use Rattle.register.specs.declared.row.Row.{Row}
@@ -64,10 +64,10 @@ module _ (rows : List Row) (entry : Entry) where
   some_room few = cond-true _ _ _ (lt-ltb (length (book_in rows)) most_entries (omega (arith, few, length-map rows entry_of)))
 
 -- one row with the kind that an event gives it
-pub row_turned : (rows : List Row) (place : ℕ) (event : Event) (row turned : Row) → place < length rows → get_or rows place row ≡ row
+pub turned_in_table : (rows : List Row) (place : ℕ) (event : Event) (row turned : Row) → place < length rows → get_or rows place row ≡ row
     → entry_of turned ≡ turned_entry event (entry_of row)
     → book_in (slice_set rows place turned) ≡ book_spent place (next_in (book_in rows) place event) (book_in rows)
-row_turned rows place event row turned within is becomes =
+turned_in_table rows place event row turned within is becomes =
     map-set entry_of rows place turned ∙ ap (slice_set (book_in rows) place) becomes ∙ go (with_next event (entry_of row))
     ∙ ap (λ next. book_spent place next (book_in rows)) (sym (ap (option_and_then (with_next event)) there))
   where

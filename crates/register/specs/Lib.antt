@@ -14,7 +14,7 @@ pub mod Law
 pub mod Beneath
 pub mod Rolls
 pub mod Grants
-pub mod Table
+pub mod Rows
 pub mod Registers
 pub mod Passing
 pub mod Example

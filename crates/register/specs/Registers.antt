@@ -7,7 +7,7 @@ use Rattle.register.specs.Questions.{Rules}
 use Rattle.register.specs.Founding.{Founding}
 use Rattle.register.specs.Rulings.{Answer, refused, named}
 use Rattle.register.specs.Law.{Start}
-use Rattle.register.specs.Table.{book_in}
+use Rattle.register.specs.Rows.{book_in}
 use Rattle.register.specs.declared.founding.Founding as code
 use Rattle.register.specs.declared.founding.FoundingRefusal.{FoundingRefusal}
 use Rattle.register.specs.declared.refusal.Refusal.{Refusal}

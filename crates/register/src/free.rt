@@ -3,7 +3,7 @@ ghost use Rattle.std.specs.Prelude.{◌≡◌};
 ghost use Rattle.oid.specs.Meaning.{arcs_of};
 ghost use Rattle.register.specs.Book.{children, is_taken};
 ghost use Rattle.register.specs.Free.{free_arc};
-ghost use Rattle.register.specs.Table.{book_in};
+ghost use Rattle.register.specs.Rows.{book_in};
 
 use crate::row::Row;
 use arc_rules::ArcRule;

@@ -3,7 +3,7 @@ ghost use Rattle.std.specs.Prelude.{◌≡◌, ◌≤◌, length};
 ghost use Rattle.oid.specs.Meaning.{arcs_of};
 ghost use Rattle.register.specs.Book.{most_entries, children};
 ghost use Rattle.register.specs.Left.{used};
-ghost use Rattle.register.specs.Table.{book_in};
+ghost use Rattle.register.specs.Rows.{book_in};
 
 use crate::row::Row;
 use oid::Identifier;

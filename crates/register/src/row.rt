@@ -5,7 +5,7 @@ ghost use Rattle.register.specs.Book.{is_at, is_child, arc_of_child};
 ghost use Rattle.register.specs.Grants.{with_next};
 ghost use Rattle.register.specs.Kinds.{is_authority};
 ghost use Rattle.register.specs.Left.{counted};
-ghost use Rattle.register.specs.Table.{entry_of, turned_entry};
+ghost use Rattle.register.specs.Rows.{entry_of, turned_entry};
 
 use crate::event::Event;
 use crate::kind::Kind;

@@ -3,7 +3,7 @@ ghost use Rattle.std.specs.Prelude.{◌≡◌, position};
 ghost use Rattle.std.specs.Option.{option_map};
 ghost use Rattle.oid.specs.Meaning.{arcs_of};
 ghost use Rattle.register.specs.Book.{is_at, found};
-ghost use Rattle.register.specs.Table.{entry_of, book_in};
+ghost use Rattle.register.specs.Rows.{entry_of, book_in};
 
 use crate::row::Row;
 use oid::Identifier;

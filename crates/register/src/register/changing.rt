@@ -4,7 +4,7 @@ ghost use Rattle.register.specs.Grants.{next_in, book_spent};
 ghost use Rattle.register.specs.Questions.{entering};
 ghost use Rattle.register.specs.Registers.{book_of, refusal_of, KeepsRest, answer_named};
 ghost use Rattle.register.specs.Rulings.{answer_of, book_after};
-ghost use Rattle.register.specs.Table.{entry_of};
+ghost use Rattle.register.specs.Rows.{entry_of};
 
 use super::Register;
 use crate::event::Event;

@@ -6,7 +6,7 @@ ghost use Rattle.register.specs.Book.{is_at, found, children};
 ghost use Rattle.register.specs.Free.{free_arc};
 ghost use Rattle.register.specs.Order.{in_order, from_arc};
 ghost use Rattle.register.specs.Registers.{book_of};
-ghost use Rattle.register.specs.Table.{entry_of};
+ghost use Rattle.register.specs.Rows.{entry_of};
 
 use super::Register;
 use crate::free::free_arc;

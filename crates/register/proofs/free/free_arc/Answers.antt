@@ -1,7 +1,7 @@
 use Rattle.std.proofs.Common.{sym, ◌∙◌}
 use Rattle.oid.specs.Meaning.{arcs_of}
 use Rattle.register.specs.Book.{children, is_taken}
-use Rattle.register.specs.Table.{book_in}
+use Rattle.register.specs.Rows.{book_in}
 use Rattle.register.proofs.Freed.{no_more, free_now, all_taken}
 use Rattle.register.proofs.free.free_arc.Goals as goal
 

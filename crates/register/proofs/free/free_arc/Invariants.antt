@@ -3,7 +3,7 @@ use Rattle.oid.specs.Arcs.{arc_limit}
 use Rattle.oid.specs.Meaning.{arcs_of}
 use Rattle.register.specs.Book.{children}
 use Rattle.register.specs.Free.{untaken}
-use Rattle.register.specs.Table.{book_in}
+use Rattle.register.specs.Rows.{book_in}
 use Rattle.register.proofs.free.free_arc.Given as goal
 
 -- no arc below the one asked for is free

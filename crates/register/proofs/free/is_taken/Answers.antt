@@ -3,7 +3,7 @@ use Rattle.std.proofs.lemmas.Iterator.{YieldsList-from_slice}
 use Rattle.std.proofs.lemmas.Iterator.Search.{any_from_yields_List}
 use Rattle.oid.specs.Meaning.{arcs_of}
 use Rattle.register.specs.Book.{is_child, arc_of_child}
-use Rattle.register.specs.Table.{entry_of}
+use Rattle.register.specs.Rows.{entry_of}
 use Rattle.register.proofs.Children.{taken_in}
 use Rattle.register.proofs.free.is_taken.Goals as goal
 

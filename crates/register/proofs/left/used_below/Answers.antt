@@ -3,7 +3,7 @@ use Rattle.std.proofs.lemmas.Bool.{cond-true, cond-false}
 use Rattle.oid.specs.Meaning.{arcs_of}
 use Rattle.register.specs.Book.{children}
 use Rattle.register.specs.Left.{counted, used}
-use Rattle.register.specs.Table.{entry_of, book_in}
+use Rattle.register.specs.Rows.{entry_of, book_in}
 use Rattle.register.proofs.Shares.{used_is, used_more}
 use Rattle.register.proofs.Stored.{book_more}
 use Rattle.register.proofs.left.used_below.Goals.{then-is_child, else-is_child}

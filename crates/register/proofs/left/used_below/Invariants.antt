@@ -2,7 +2,7 @@ use Rattle.std.proofs.Common.{◌≡◌, ◌≤◌, ◌*◌, ◌^◌, take}
 use Rattle.oid.specs.Meaning.{arcs_of}
 use Rattle.register.specs.Book.{children}
 use Rattle.register.specs.Left.{used}
-use Rattle.register.specs.Table.{book_in}
+use Rattle.register.specs.Rows.{book_in}
 use Rattle.register.proofs.left.used_below.Given as goal
 
 -- what the children among the first rows have used up, and that it cannot be too much

@@ -1,7 +1,7 @@
 use Rattle.std.proofs.Common.{sym, ap, ◌∙◌}
 use Rattle.std.specs.Option.{option_map}
 use Rattle.oid.specs.Meaning.{arcs_of}
-use Rattle.register.specs.Table.{entry_of}
+use Rattle.register.specs.Rows.{entry_of}
 use Rattle.register.proofs.Stored.{found_in_table, not_in_table}
 use Rattle.register.proofs.table.found.Goals as goal
 

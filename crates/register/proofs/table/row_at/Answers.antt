@@ -3,7 +3,7 @@ use Rattle.std.proofs.lemmas.Iterator.{YieldsList-from_slice}
 use Rattle.std.proofs.lemmas.Iterator.Search.{position_from_yields_List}
 use Rattle.oid.specs.Meaning.{arcs_of}
 use Rattle.register.specs.Book.{is_at}
-use Rattle.register.specs.Table.{entry_of}
+use Rattle.register.specs.Rows.{entry_of}
 use Rattle.register.proofs.Stored.{position_in_book}
 use Rattle.register.proofs.table.row_at.Goals as goal
 

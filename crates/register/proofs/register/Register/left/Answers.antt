@@ -5,7 +5,7 @@ use Rattle.oid.specs.Meaning.{arcs_of}
 use Rattle.register.specs.Book.{found, children}
 use Rattle.register.specs.Left.{used, left, left_of}
 use Rattle.register.specs.Registers.{book_of}
-use Rattle.register.specs.Table.{entry_of, book_in}
+use Rattle.register.specs.Rows.{entry_of, book_in}
 use Rattle.register.proofs.Rows.{found_identifier}
 use Rattle.register.proofs.register.Register.left.Goals as goal
 

@@ -1,4 +1,4 @@
--- The table of rows that a register keeps: the book that it stands for.
+-- The rows that a register keeps: the book that they stand for.
 use Rattle.std.specs.Prelude.{ℕ, Bool, true, List, map, nat_lt, Some, None, Option, unwrap_or}
 use Rattle.oid.specs.Meaning.{arcs_of}
 use Rattle.register.specs.Book.{Entry, Book, arc_of_child}
