@@ -1,12 +1,12 @@
 -- Which rows are children, and which arcs they have.
-use Rattle.std.proofs.Common.{◌≡◌, ℕ, ◌+◌, ◌<◌, ◌≤◌, Bool, true, false, cond, List, [], ◌∷◌, ◌++◌, length, ◌==◌, ◌||◌, ◌&&◌, filter, Some, refl, ap, ◌∙◌, ⊎_elim, arith}
+use Rattle.std.proofs.Common.{◌≡◌, ℕ, ◌+◌, ◌<◌, ◌≤◌, Bool, true, false, cond, List, [], ◌∷◌, ◌++◌, length, ◌==◌, ◌||◌, ◌&&◌, map, filter, Some, refl, ap, ◌∙◌, ⊎_elim, arith}
 use Rattle.std.proofs.lemmas.Bool.{cases_lt, cond-false, and_right, le-ltb}
 use Rattle.std.proofs.lemmas.List.{length_push}
 use Rattle.std.specs.List.{list_any}
 use Rattle.std.specs.Option.{option_eq}
 use Rattle.oid.specs.Tree.{parent_of}
-use Rattle.register.specs.Book.{Entry, same, is_child, children, arc_of_child, is_taken}
-use Rattle.register.specs.Rows.{entry_of, book_in}
+use Rattle.register.specs.Book.{same, is_child, children, arc_of_child, is_taken}
+use Rattle.register.specs.Rows.{entry_of, book_in, has_arc}
 use Rattle.register.specs.declared.row.Row.{Row}
 use Rattle.register.proofs.Identifiers.{same_true, parent_of_child, and_true}
 
@@ -30,19 +30,22 @@ child_by_front front authority last long = ⊎_elim child no_child (cases_lt (le
         ap (λ o. option_eq same o (Some authority)) (cond-false _ _ _ (le-ltb 2 (length (front ++ last ∷ [])) (omega (arith, len))))
         ∙ other (same front authority) refl short
 
--- an arc is taken where a row has it that is a child
-pub taken_in : (o : List ℕ) (arc : ℕ) (rows : List Row)
-    → list_any (λ row. (arc_of_child (entry_of row) == arc) && is_child o (entry_of row)) rows ≡ is_taken arc (children o (book_in rows))
-unfolding is_taken children
-taken_in o arc [] = refl
-taken_in o arc (row ∷ rows) = go (is_child o (entry_of row)) (taken_in o arc rows)
+-- something of those that pass one test passes another where something passes both
+any_filter : {X : Type 0} (p q : X → Bool) (xs : List X) → list_any (λ x. p x && q x) xs ≡ list_any p (filter q xs)
+any_filter p q [] = refl
+any_filter {X} p q (x ∷ xs) = go (q x) (any_filter p q xs)
   where
-    others : List Entry
-    others = filter (is_child o) (book_in rows)
+    go : (v : Bool) → list_any (λ x. p x && q x) xs ≡ list_any p (filter q xs)
+        → ((p x && v) || list_any (λ x. p x && q x) xs) ≡ list_any p (cond v (x ∷ filter q xs) (filter q xs))
+    go true later = ap (λ first. first || list_any (λ x. p x && q x) xs) (and_true (p x)) ∙ ap (λ rest. p x || rest) later
+    go false later = ap (λ first. first || list_any (λ x. p x && q x) xs) (and_right (p x) false refl) ∙ later
 
-    go : (v : Bool)
-        → list_any (λ row. (arc_of_child (entry_of row) == arc) && is_child o (entry_of row)) rows ≡ list_any (λ child. arc_of_child child == arc) others
-        → (((arc_of_child (entry_of row) == arc) && v) || list_any (λ row. (arc_of_child (entry_of row) == arc) && is_child o (entry_of row)) rows)
-        ≡ list_any (λ child. arc_of_child child == arc) (cond v (entry_of row ∷ others) others)
-    go true later = ap (λ first. first || list_any (λ row. (arc_of_child (entry_of row) == arc) && is_child o (entry_of row)) rows) (and_true _) ∙ ap (λ rest. (arc_of_child (entry_of row) == arc) || rest) later
-    go false later = ap (λ first. first || list_any (λ row. (arc_of_child (entry_of row) == arc) && is_child o (entry_of row)) rows) (and_right (arc_of_child (entry_of row) == arc) false refl) ∙ later
+any_map : {X Y : Type 0} (test : Y → Bool) (f : X → Y) (xs : List X) → list_any (λ x. test (f x)) xs ≡ list_any test (map f xs)
+any_map test f [] = refl
+any_map test f (x ∷ xs) = ap (λ rest. test (f x) || rest) (any_map test f xs)
+
+-- an arc is taken where some row is a child that has it
+pub taken_in : (o : List ℕ) (arc : ℕ) (rows : List Row) → list_any (λ row. has_arc o arc (entry_of row)) rows ≡ is_taken arc (children o (book_in rows))
+unfolding is_taken children
+taken_in o arc rows =
+    any_map (has_arc o arc) entry_of rows ∙ any_filter (λ child. arc_of_child child == arc) (is_child o) (book_in rows)

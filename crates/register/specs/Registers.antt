@@ -14,11 +14,11 @@ use Rattle.register.specs.declared.refusal.Refusal.{Refusal}
 use Rattle.register.specs.declared.register.Register.{Register}
 use Rattle.oid.specs.declared.identifier.Identifier.{Identifier}
 
--- the book, as the rows say it
+-- its book, by its rows
 abbrev pub book_of : {P A : Type 0} → Register P A → Book
 book_of register = book_in register.rows.items
 
--- the rules, where the code's say what they mean
+-- its rules, by what the two arc rules that it owns mean
 abbrev pub rules_of : {P A : Type 0} → (P → Meaning) → (A → Meaning) → Register P A → Rules
 rules_of panels authorities register = record { panels = panels register.panels; authorities = authorities register.authorities }
 
@@ -29,7 +29,7 @@ refusal_of register = register.refused_for
 abbrev pub serial_of : {P A : Type 0} → Register P A → ℕ
 serial_of register = register.serial
 
--- what it was founded with, and the run that may begin at it
+-- what a register is founded with, and the start of the runs that begin at one
 abbrev pub founding_of : {P A : Type 0} → (P → Meaning) → (A → Meaning) → code.Founding P A → Founding
 founding_of panels authorities founding = record {
   root = arcs_of founding.root;

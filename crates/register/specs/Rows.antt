@@ -1,7 +1,7 @@
 -- The rows that a register keeps: the book that they stand for.
-use Rattle.std.specs.Prelude.{ℕ, Bool, true, List, map, nat_lt, Some, None, Option, unwrap_or}
+use Rattle.std.specs.Prelude.{ℕ, Bool, true, ◌&&◌, List, map, nat_lt, Some, None, Option, unwrap_or, ◌==◌}
 use Rattle.oid.specs.Meaning.{arcs_of}
-use Rattle.register.specs.Book.{Entry, Book, arc_of_child}
+use Rattle.register.specs.Book.{Entry, Book, is_child, arc_of_child}
 use Rattle.register.specs.Grants.{with_next}
 use Rattle.register.specs.declared.event.Event.{Event}
 use Rattle.register.specs.declared.row.Row.{Row}
@@ -13,6 +13,10 @@ entry_of row = record { identifier = arcs_of row.identifier; kind = row.kind; ho
 -- the book of some rows
 abbrev pub book_in : List Row → Book
 book_in rows = map entry_of rows
+
+-- an entry is a child of the authority and has the arc
+abbrev pub has_arc : List ℕ → ℕ → Entry → Bool
+has_arc authority arc entry = (arc_of_child entry == arc) && is_child authority entry
 
 -- an entry after an event: with its next kind, or as it was
 abbrev pub turned_entry : Event → Entry → Entry

@@ -1,11 +1,11 @@
 // The rows of a register's table.
-ghost use Rattle.std.specs.Prelude.{◌≡◌, ◌≤◌, ◌^◌, ◌==◌, ◌&&◌, is_some};
+ghost use Rattle.std.specs.Prelude.{◌≡◌, ◌≤◌, ◌^◌, is_some};
 ghost use Rattle.oid.specs.Meaning.{arcs_of};
 ghost use Rattle.register.specs.Book.{is_at, is_child, arc_of_child};
 ghost use Rattle.register.specs.Grants.{with_next};
 ghost use Rattle.register.specs.Kinds.{is_authority};
 ghost use Rattle.register.specs.Left.{counted};
-ghost use Rattle.register.specs.Rows.{entry_of, turned_entry};
+ghost use Rattle.register.specs.Rows.{entry_of, has_arc, turned_entry};
 
 use crate::event::Event;
 use crate::kind::Kind;
@@ -49,7 +49,7 @@ impl Row {
 
     // Whether it is a child of the authority, at this arc. Few rows have the arc, so that is asked first: identifiers are longer.
     pub(crate) fn has_arc(&self, authority: &Identifier, arc: Arc) -> bool
-        ensures { result ≡ ((arc_of_child (entry_of self.now) == arc) && is_child (arcs_of authority.now) (entry_of self.now)) }
+        ensures { result ≡ has_arc (arcs_of authority.now) arc (entry_of self.now) }
     {
         self.arc() == arc && self.is_child(authority)
     }

@@ -18,6 +18,7 @@ impl<P: ArcRule + Drop, A: ArcRule + Drop> Register<P, A> {
         ensures start { IfOk result (λ register. start_of P.means A.means register ≡ at_founding (founding_of P.means A.means founding)) }
         ensures begins { IfOk result (λ register. Begins (start_of P.means A.means register)) }
         ensures refusal { IfOk result (λ register. refusal_of register ≡ founding_refusal (founding_of P.means A.means founding)) }
+        ensures rules { IfOk result (λ register. (register.panels ≡ founding.panels) × (register.authorities ≡ founding.authorities)) }
         ensures serial { IfOk result (λ register. serial_of register ≡ founding.serial) }
     {
         let refused_for = founding.refusal();
