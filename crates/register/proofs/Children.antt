@@ -6,7 +6,7 @@ use Rattle.std.specs.List.{list_any}
 use Rattle.std.specs.Option.{option_eq}
 use Rattle.oid.specs.Tree.{parent_of}
 use Rattle.register.specs.Book.{same, is_child, children, arc_of_child, is_taken}
-use Rattle.register.specs.Rows.{entry_of, book_in, has_arc}
+use Rattle.register.specs.Kept.{entry_of, book_in, has_arc}
 use Rattle.register.specs.declared.row.Row.{Row}
 use Rattle.register.proofs.Identifiers.{same_true, parent_of_child, and_true}
 

@@ -27,10 +27,10 @@ pub mod Worked
 pub mod Edging
 pub mod Tabling
 pub mod Rolling
-pub mod Stored
+pub mod Kept
 pub mod Children
-pub mod Nearest
-pub mod Freed
+pub mod NextChild
+pub mod FreeArcs
 pub mod Along
 pub mod Adding
 pub mod Theorems

@@ -15,7 +15,8 @@ use Rattle.register.specs.Book.{Entry, Book, is_at, found}
 use Rattle.register.specs.Rulings.{turned, turns, named, answer_of, book_after, there_is}
 use Rattle.register.specs.Calls.{Call, accept_grant, decline_grant}
 use Rattle.register.specs.Questions.{spending, answer, after}
-use Rattle.register.specs.Grants.{with_next, answer_spent, book_spent, DoesAs, OwnGrants}
+use Rattle.register.specs.Changes.{with_next, with_entry}
+use Rattle.register.specs.Grants.{answer_spent, DoesAs, OwnGrants}
 use Rattle.register.proofs.Identifiers.{same_true}
 
 -- the book with the kind of T's entry changed is the book with the first row of T written anew
@@ -40,7 +41,7 @@ found_in_row t book row h = find_at (is_at t) book ∙ ap (slice_get book) (cond
 spends_as_named : (t : List ℕ) (book : Book) (row : ℕ) (event : Event) → position (is_at t) book ≡ Some row
     → (thing : Option Entry) → slice_get book row ≡ thing
     → (answer_spent (option_and_then (with_next event) thing) ≡ answer_of (spending book t event))
-    × (book_spent row (option_and_then (with_next event) thing) book ≡ book_after (spending book t event) book)
+    × (with_entry row (option_and_then (with_next event) thing) book ≡ book_after (spending book t event) book)
 unfolding there_is
 spends_as_named t book row event at None is = rw (found_in_row t book row at ∙ is) (refl, refl)
 spends_as_named t book row event at (Some entry) is = rw (found_in_row t book row at ∙ is) (go (next_kind entry.kind event))
@@ -54,7 +55,7 @@ spends_as_named t book row event at (Some entry) is = rw (found_in_row t book ro
     go : (next : Option Kind)
         → (answer_spent (option_map (λ kind. record entry { kind = kind }) next)
         ≡ answer_of (there_is NotInHand next (λ kind. turns t kind (named t))))
-        × (book_spent row (option_map (λ kind. record entry { kind = kind }) next) book
+        × (with_entry row (option_map (λ kind. record entry { kind = kind }) next) book
         ≡ book_after (there_is NotInHand next (λ kind. turns t kind (named t))) book)
     go None = (refl, refl)
     go (Some kind) = (ap named (same_true entry.identifier t here), turned_in_row t kind book row entry is first.2 here)
@@ -69,5 +70,5 @@ own_grants rules serial book t grant own = (does AcceptGrant (accept_grant t) re
         let same = spends_as_named t book grant.row event own.first _ refl in
         record {
           answers = ap answer_spent passes ∙ same.0 ∙ answered;
-          leaves = ap (λ entry. book_spent grant.row entry book) passes ∙ same.1 ∙ left;
+          leaves = ap (λ entry. with_entry grant.row entry book) passes ∙ same.1 ∙ left;
         }

@@ -16,7 +16,8 @@ use Rattle.register.specs.Rulings.{Answer, refused, named, listed, collected, Ru
 use Rattle.register.specs.Questions.{Rules, Finder, as_holder, lowest_free, claimed, giving, panel_below, offer_below, turning, spending, is_held_by, holds_parent}
 use Rattle.std.specs.Option.{option_map, option_and_then}
 use Rattle.std.specs.List.{slice_get}
-use Rattle.register.specs.Grants.{Grant, with_next, spent, answer_spent}
+use Rattle.register.specs.Changes.{with_next}
+use Rattle.register.specs.Grants.{Grant, spent, answer_spent}
 use Rattle.register.specs.Passing.{IsInHand, Holds, MayGive, IsFree, Stands, IsOfferedTo, IsPanelOf, Passes, AllPass}
 use Rattle.register.specs.declared.kind.Kind.{Kind}
 use Rattle.register.specs.declared.kind.Kind.TheVariants.{Panel, Retired, Offered, InHand, Open, Declined}

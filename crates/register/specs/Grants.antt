@@ -1,8 +1,7 @@
 -- Grants: question 22 of any of them, and which are the register's own.
-use Rattle.std.specs.Prelude.{ℕ, ◌≡◌, cond, List, position, slice_get, slice_set, Some, None, Option, ◌==◌}
-use Rattle.std.specs.Option.{option_map, option_and_then}
-use Rattle.register.specs.Kinds.{next_kind}
+use Rattle.std.specs.Prelude.{ℕ, ◌≡◌, cond, List, position, slice_get, Some, None, Option, ◌==◌}
 use Rattle.register.specs.Book.{Entry, Book, is_at}
+use Rattle.register.specs.Changes.{next_in, with_entry}
 use Rattle.register.specs.Calls.{Call, collect, accept_grant, decline_grant}
 use Rattle.register.specs.Rulings.{Answer, refused, named, collected}
 use Rattle.register.specs.Questions.{Rules, answer, after}
@@ -17,27 +16,15 @@ pub record Grant : Type 0 where
   pub holder : ℕ
   pub quota : ℕ
 
--- an entry with the kind that an event gives it
-abbrev pub with_next : Event → Entry → Option Entry
-with_next event entry = option_map (λ kind. record entry { kind = kind }) (next_kind entry.kind event)
-
--- what an event makes of the entry in a row; none where there is no such row, or the event changes no entry of that kind
-abbrev pub next_in : Book → ℕ → Event → Option Entry
-next_in book row event = option_and_then (with_next event) (slice_get book row)
-
 -- 22. Has the Grant this register's serial, and is its entry in hand? Then this is what the entry becomes; none for a no. The event is one
 -- of a Grant's: those change only what is in hand.
 abbrev pub spent : ℕ → Book → Grant → Event → Option Entry
 spent serial book grant event = cond (grant.serial == serial) (next_in book grant.row event) None
 
--- The answer to a spent Grant, and the book after it. After a no the Grant is still there.
+-- The answer to a spent Grant; the book after it has what the entry becomes in the Grant's row. After a no the Grant is still there.
 abbrev pub answer_spent : Option Entry → Answer
 answer_spent None = refused NotInHand
 answer_spent (Some entry) = named entry.identifier
-
-abbrev pub book_spent : ℕ → Option Entry → Book → Book
-book_spent row None book = book
-book_spent row (Some entry) book = slice_set book row entry
 
 -- A Grant is the register's own for T: it is the one that the register gives for the first row with T's identifier.
 pub record IsOwn (serial : ℕ) (book : Book) (t : List ℕ) (grant : Grant) : Type 0 where
@@ -51,7 +38,7 @@ pub record IsOwn (serial : ℕ) (book : Book) (t : List ℕ) (grant : Grant) : T
 -- spending a Grant comes to what a call does
 pub record DoesAs (rules : Rules) (serial : ℕ) (book : Book) (grant : Grant) (event : Event) (call : Call) : Type 0 where
   pub answers : answer_spent (spent serial book grant event) ≡ answer rules book call
-  pub leaves : book_spent grant.row (spent serial book grant event) book ≡ after rules book call
+  pub leaves : with_entry grant.row (spent serial book grant event) book ≡ after rules book call
 
 -- The register's own Grant for T does what the calls do that name T.
 abbrev pub OwnGrants : Type 0

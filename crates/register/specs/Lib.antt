@@ -13,8 +13,9 @@ pub mod Given
 pub mod Law
 pub mod Beneath
 pub mod Rolls
+pub mod Changes
 pub mod Grants
-pub mod Rows
+pub mod Kept
 pub mod Registers
 pub mod Passing
 pub mod Example

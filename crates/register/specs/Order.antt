@@ -1,5 +1,5 @@
 -- Children in the order of their arcs. What is true of such a list, Rolls says.
-use Rattle.std.specs.Prelude.{ℕ, cond, List, [], ◌∷◌, filter, nat_le, nat_lt, ◌==◌}
+use Rattle.std.specs.Prelude.{ℕ, cond, List, [], ◌∷◌, filter, slice_get, nat_le, nat_lt, ◌==◌, Option}
 use Rattle.register.specs.Book.{Entry, arc_of_child}
 
 -- a child put among children in ascending order; of two with one arc, it takes the place of the other
@@ -17,3 +17,7 @@ in_order (child ∷ others) = put child (in_order others)
 -- those with arcs from one upwards
 abbrev pub from_arc : ℕ → List Entry → List Entry
 from_arc arc children = filter (λ child. nat_le arc (arc_of_child child)) children
+
+-- the next child from an arc upwards, in that order
+abbrev pub next_child : ℕ → List Entry → Option Entry
+next_child arc children = slice_get (from_arc arc (in_order children)) 0

@@ -24,6 +24,7 @@ impl FoundingRefusal {
 
 // What a register is founded with: the root of its part of the tree, the holder and the quota of the root, the register's serial,
 // and the rules for the arcs of panels and of authorities.
+#[derive(Drop)]
 pub struct Founding<P, A> {
     pub root: Identifier,
     pub holder: u32,

@@ -1,4 +1,6 @@
 // What an entry of the book is.
+ghost use Rattle.std.specs.Prelude.{◌≡◌};
+ghost use Rattle.register.specs.Kinds.{is_authority};
 
 // The kinds of entries. The last four are authorities: they have a quota.
 #[derive(Clone, Copy, PartialEq, Eq, Debug)]
@@ -9,4 +11,13 @@ pub enum Kind {
     InHand,
     Open,
     Declined,
+}
+
+impl Kind {
+    // Whether entries of the kind are authorities.
+    pub fn is_authority(self) -> bool
+        ensures { result ≡ is_authority self }
+    {
+        !matches!(self, Kind::Panel | Kind::Retired)
+    }
 }

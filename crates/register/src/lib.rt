@@ -1,23 +1,19 @@
-// The register of identifiers: the book, what each call is asked, answers and leaves, and what holds of every run.
+// The register of identifiers: its book and what holds of every run, as definitions and laws; how it is founded, what it tells, and
+// what its calls will find, count and change in its rows.
 #![tactic(auto)]
 
 pub mod event;
 pub mod founding;
-mod free;
 pub mod kind;
 pub mod laws;
-mod left;
-mod order;
 pub mod refusal;
 pub mod register;
 mod row;
-mod table;
 #[cfg(test)]
 mod tests;
 
 pub use event::Event;
-pub use founding::{Founding, FoundingRefusal};
+pub use founding::{FIRST_HOLDER, Founding, FoundingRefusal, LAST_HOLDER, MOST_QUOTA};
 pub use kind::Kind;
 pub use refusal::Refusal;
-pub use register::Register;
-pub use table::MOST_ENTRIES;
+pub use register::{MOST_ENTRIES, Register};

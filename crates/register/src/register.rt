@@ -1,19 +1,25 @@
-// The register: a table of rows, two rules, and a serial.
+// The register: rows, two rules, and a serial.
 ghost use Rattle.std.specs.Prelude.{◌≡◌, ◌≤◌, [], vec_len};
 ghost use Rattle.std.specs.Option.{ForSome};
 ghost use Rattle.std.specs.Vec.{vec_capacity};
 ghost use Rattle.register.specs.Book.{most_entries};
 
 mod changing;
+mod finding;
+mod free;
+mod left;
 mod making;
-mod reading;
+mod order;
 mod telling;
 
 use crate::founding::FoundingRefusal;
 use crate::row::Row;
 
+// The most entries that a register has.
+pub const MOST_ENTRIES: usize = 512;
+
 // A register, with a rule for the arcs of panels and one for those of authorities. The room for all rows is there from the
-// founding on, so nothing that is called later allocates. A register that was refused has no row, and never gets one.
+// founding on, so storing a row needs no memory. A register that was refused has no row, and never gets one.
 #[derive(Drop)]
 pub struct Register<P, A> {
     rows: Vec<Row>,

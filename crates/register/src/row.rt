@@ -2,10 +2,10 @@
 ghost use Rattle.std.specs.Prelude.{◌≡◌, ◌≤◌, ◌^◌, is_some};
 ghost use Rattle.oid.specs.Meaning.{arcs_of};
 ghost use Rattle.register.specs.Book.{is_at, is_child, arc_of_child};
-ghost use Rattle.register.specs.Grants.{with_next};
-ghost use Rattle.register.specs.Kinds.{is_authority};
+ghost use Rattle.register.specs.Changes.{turned_entry};
+ghost use Rattle.register.specs.Kept.{entry_of, has_arc};
+ghost use Rattle.register.specs.Kinds.{next_kind};
 ghost use Rattle.register.specs.Left.{counted};
-ghost use Rattle.register.specs.Rows.{entry_of, has_arc, turned_entry};
 
 use crate::event::Event;
 use crate::kind::Kind;
@@ -47,18 +47,11 @@ impl Row {
         arcs[arcs.len() - 1]
     }
 
-    // Whether it is a child of the authority, at this arc. Few rows have the arc, so that is asked first: identifiers are longer.
+    // Whether it is a child of the authority and has the arc. The arc is compared first: it is one number, an identifier up to 16.
     pub(crate) fn has_arc(&self, authority: &Identifier, arc: Arc) -> bool
         ensures { result ≡ has_arc (arcs_of authority.now) arc (entry_of self.now) }
     {
         self.arc() == arc && self.is_child(authority)
-    }
-
-    // Whether it is an authority, which has a quota.
-    pub(crate) fn is_authority(&self) -> bool
-        ensures { result ≡ is_authority self.now.kind }
-    {
-        !matches!(self.kind, Kind::Panel | Kind::Retired)
     }
 
     // What it has used up of the quota of the authority above it.
@@ -72,10 +65,10 @@ impl Row {
         }
     }
 
-    // Changes the kind as the event does, and tells whether it changes an entry of this kind.
+    // Changes the kind as the event does, and tells whether the event changes an entry of the kind that it had.
     pub(crate) fn turn(&mut self, event: Event) -> bool
         ensures entry { entry_of self.new ≡ turned_entry event (entry_of self.old) }
-        ensures answer { result ≡ is_some (with_next event (entry_of self.old)) }
+        ensures answer { result ≡ is_some (next_kind self.old.kind event) }
     {
         match (self.kind, event) {
             (Kind::Offered, Event::Accept) => self.kind = Kind::Open,

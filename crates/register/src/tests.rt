@@ -8,60 +8,13 @@ use std::test::Fail;
 
 type Hall = Register<Range, Listed>;
 
-// What each event, in the order below, makes of each kind.
-const NEXT: [(Kind, [Option<Kind>; 6]); 6] = [
-    (
-        Kind::Panel,
-        [None, None, Some(Kind::Retired), None, None, None],
-    ),
-    (Kind::Retired, [None; 6]),
-    (
-        Kind::Offered,
-        [
-            Some(Kind::Open),
-            Some(Kind::Declined),
-            None,
-            Some(Kind::InHand),
-            None,
-            None,
-        ],
-    ),
-    (
-        Kind::InHand,
-        [
-            None,
-            None,
-            None,
-            None,
-            Some(Kind::Open),
-            Some(Kind::Declined),
-        ],
-    ),
-    (Kind::Open, [None; 6]),
-    (Kind::Declined, [None; 6]),
-];
-
-const EVENTS: [Event; 6] = [
-    Event::Accept,
-    Event::Decline,
-    Event::Retire,
-    Event::Collect,
-    Event::AcceptGrant,
-    Event::DeclineGrant,
-];
-
-// The identifier 2.999, with these arcs after it.
-fn below(arcs: &[Arc]) -> Identifier {
-    let mut identifier = Identifier::from_arcs(&[2, 999]).unwrap_or(Identifier::smallest());
-    for arc in arcs {
-        identifier = identifier.child(*arc).unwrap_or(identifier);
-    }
-    identifier
+fn identifier(arcs: &[Arc]) -> Identifier {
+    Identifier::from_arcs(arcs).unwrap_or(Identifier::smallest())
 }
 
 fn row(arcs: &[Arc], kind: Kind, quota: u32) -> Row {
     Row {
-        identifier: below(arcs),
+        identifier: identifier(arcs),
         kind,
         holder: 1,
         quota,
@@ -73,7 +26,7 @@ fn hall(alloc: Global, holder: u32, quota: u32) -> Result<Hall, AllocError> {
     Register::founded(
         alloc,
         Founding {
-            root: below(&[]),
+            root: identifier(&[2, 999]),
             holder,
             quota,
             serial: 7,
@@ -95,7 +48,7 @@ fn founded(rt: HostRuntime) -> Result<(), Fail> {
     ] {
         let register = hall(rt.alloc(), holder, quota)?;
         assert_eq!(rt; register.tells(), number);
-        let left = register.left(&below(&[]));
+        let left = register.left(&identifier(&[2, 999]));
         if number == 0 {
             assert!(rt; left == Ok(u64::from(quota)));
         } else {
@@ -105,7 +58,7 @@ fn founded(rt: HostRuntime) -> Result<(), Fail> {
     Ok(())
 }
 
-// Enters a row, if the register was not refused.
+// Enters a row. What a call names does not stand in the book of a register that was refused.
 fn enters(register: &mut Hall, row: Row) -> Result<Identifier, Refusal> {
     if register.refusal().is_some() {
         return Err(Refusal::NotInBook);
@@ -113,25 +66,27 @@ fn enters(register: &mut Hall, row: Row) -> Result<Identifier, Refusal> {
     register.enter(row)
 }
 
-// The kind of an entry after an event, where two offers stand in the book, one of them of this kind.
-fn kinds_after(register: &mut Hall, kind: Kind, event: Event) -> Option<(bool, Kind, Kind)> {
-    enters(register, row(&[1], kind, 2)).ok()?;
-    enters(register, row(&[3], Kind::Offered, 2)).ok()?;
-    let turned = register.turn(1, event);
-    let entry = register.entry(&below(&[1]))?;
-    let other = register.entry(&below(&[3]))?;
-    Some((turned, entry.kind, other.kind))
-}
-
 #[test]
 fn turned(rt: HostRuntime) -> Result<(), Fail> {
-    for (kind, nexts) in NEXT {
-        for (index, next) in nexts.iter().enumerate() {
-            let mut register = hall(rt.alloc(), 1, 9)?;
-            let kinds = kinds_after(&mut register, kind, EVENTS[index]);
-            assert!(rt; kinds == Some((next.is_some(), next.unwrap_or(kind), Kind::Offered)));
-        }
-    }
+    let mut register = hall(rt.alloc(), 1, 9)?;
+    assert!(rt; enters(&mut register, row(&[2, 999, 100], Kind::Panel, 0)).is_ok());
+    assert!(rt; enters(&mut register, row(&[2, 999, 1], Kind::Offered, 4)).is_ok());
+    assert!(rt; !register.turn(1, Event::Accept));
+    assert!(rt; register.turn(1, Event::Retire));
+    assert!(rt; !register.turn(1, Event::Retire));
+    assert!(rt; register.turn(2, Event::Collect));
+    assert!(rt; !register.turn(2, Event::Decline));
+    assert!(rt; register.turn(2, Event::DeclineGrant));
+    assert!(rt; !register.turn(3, Event::Retire));
+    let panel = register
+        .entry(&identifier(&[2, 999, 100]))
+        .map(|row| row.kind);
+    assert!(rt; panel == Some(Kind::Retired));
+    let offer = register
+        .entry(&identifier(&[2, 999, 1]))
+        .map(|row| row.kind);
+    assert!(rt; offer == Some(Kind::Declined));
+    assert!(rt; register.left(&identifier(&[2, 999])) == Ok(7));
     Ok(())
 }
 
@@ -139,26 +94,27 @@ fn turned(rt: HostRuntime) -> Result<(), Fail> {
 #[test]
 fn counted_and_searched(rt: HostRuntime) -> Result<(), Fail> {
     let mut register = hall(rt.alloc(), 1, 20)?;
-    let root = below(&[]);
+    let root = identifier(&[2, 999]);
     assert!(rt; register.panel_arc(&root) == Some(100));
+    assert!(rt; register.offer_arc(&root) == Some(1));
     for entered in [
-        row(&[101], Kind::Panel, 0),
-        row(&[1], Kind::Open, 4),
-        row(&[1, 100], Kind::Panel, 0),
-        row(&[100], Kind::Retired, 0),
-        row(&[5], Kind::Declined, 3),
-        row(&[3], Kind::InHand, 2),
+        row(&[2, 999, 101], Kind::Panel, 0),
+        row(&[2, 999, 1], Kind::Open, 4),
+        row(&[2, 999, 1, 100], Kind::Panel, 0),
+        row(&[2, 999, 100], Kind::Retired, 0),
+        row(&[2, 999, 5], Kind::Declined, 3),
+        row(&[2, 999, 3], Kind::InHand, 2),
     ] {
         assert!(rt; enters(&mut register, entered).is_ok());
     }
     assert!(rt; register.left(&root) == Ok(9));
-    assert!(rt; register.left(&below(&[1])) == Ok(3));
-    assert!(rt; register.left(&below(&[5])) == Ok(3));
-    assert!(rt; register.left(&below(&[100])) == Err(Refusal::WrongKind));
-    assert!(rt; register.left(&below(&[102])) == Err(Refusal::NotInBook));
+    assert!(rt; register.left(&identifier(&[2, 999, 1])) == Ok(3));
+    assert!(rt; register.left(&identifier(&[2, 999, 5])) == Ok(3));
+    assert!(rt; register.left(&identifier(&[2, 999, 100])) == Err(Refusal::WrongKind));
+    assert!(rt; register.left(&identifier(&[2, 999, 102])) == Err(Refusal::NotInBook));
     assert!(rt; register.panel_arc(&root) == Some(102));
     assert!(rt; register.offer_arc(&root).is_none());
-    assert!(rt; register.panel_arc(&below(&[1])) == Some(101));
+    assert!(rt; register.panel_arc(&identifier(&[2, 999, 1])) == Some(101));
     let mut listed = [0; 6];
     let mut from = 0;
     for place in &mut listed {
@@ -176,10 +132,15 @@ fn counted_and_searched(rt: HostRuntime) -> Result<(), Fail> {
 fn full(rt: HostRuntime) -> Result<(), Fail> {
     let mut register = hall(rt.alloc(), 1, 511)?;
     for arc in 1..512 {
-        assert!(rt; enters(&mut register, row(&[arc], Kind::Panel, 0)) == Ok(below(&[arc])));
+        assert!(rt;
+            enters(&mut register, row(&[2, 999, arc], Kind::Panel, 0))
+                == Ok(identifier(&[2, 999, arc]))
+        );
     }
-    assert!(rt; enters(&mut register, row(&[512], Kind::Panel, 0)) == Err(Refusal::BookFull));
-    assert!(rt; register.row_at(&below(&[511])) == Some(MOST_ENTRIES - 1));
-    assert!(rt; register.left(&below(&[])) == Ok(0));
+    assert!(rt;
+        enters(&mut register, row(&[2, 999, 512], Kind::Panel, 0)) == Err(Refusal::BookFull)
+    );
+    assert!(rt; register.row_at(&identifier(&[2, 999, 511])) == Some(MOST_ENTRIES - 1));
+    assert!(rt; register.left(&identifier(&[2, 999])) == Ok(0));
     Ok(())
 }

@@ -1,16 +1,14 @@
-// How the table of a register changes: a row is entered, or gets another kind.
+// How the rows of a register change: one is entered, or gets another kind.
 ghost use Rattle.std.specs.Prelude.{◌≡◌, None, is_some};
-ghost use Rattle.register.specs.Grants.{next_in, book_spent};
+ghost use Rattle.register.specs.Changes.{next_in, with_entry};
+ghost use Rattle.register.specs.Kept.{entry_of};
 ghost use Rattle.register.specs.Questions.{entering};
-ghost use Rattle.register.specs.Registers.{book_of, refusal_of, KeepsRest, answer_named};
-ghost use Rattle.register.specs.Rulings.{answer_of, book_after};
-ghost use Rattle.register.specs.Rows.{entry_of};
+ghost use Rattle.register.specs.Registers.{book_of, refusal_of, answer_named, Follows, KeepsRest};
 
-use super::Register;
+use super::{MOST_ENTRIES, Register};
 use crate::event::Event;
 use crate::refusal::Refusal;
 use crate::row::Row;
-use crate::table::MOST_ENTRIES;
 use oid::Identifier;
 
 impl<P, A> Register<P, A> {
@@ -18,8 +16,7 @@ impl<P, A> Register<P, A> {
     // entries? If not, the row is refused.
     pub(crate) fn enter(&mut self, row: Row) -> Result<Identifier, Refusal>
         requires { refusal_of self.old ≡ None }
-        ensures answer { answer_named result ≡ answer_of (entering (book_of self.old) (entry_of row)) }
-        ensures book { book_of self.new ≡ book_after (entering (book_of self.old) (entry_of row)) (book_of self.old) }
+        ensures ruling { Follows (entering (book_of self.old) (entry_of row)) (book_of self.old) (answer_named result) (book_of self.new) }
         ensures rest { KeepsRest self.old self.new }
     {
         if self.rows.len() >= MOST_ENTRIES {
@@ -31,15 +28,15 @@ impl<P, A> Register<P, A> {
 
     // Changes the kind of a row as an event does, and tells whether it does: not where the event changes no entry of that kind, nor
     // where there is no such row.
-    pub(crate) fn turn(&mut self, index: usize, event: Event) -> bool
-        ensures answer { result ≡ is_some (next_in (book_of self.old) index event) }
-        ensures book { book_of self.new ≡ book_spent index (next_in (book_of self.old) index event) (book_of self.old) }
+    pub(crate) fn turn(&mut self, row: usize, event: Event) -> bool
+        ensures answer { result ≡ is_some (next_in (book_of self.old) row event) }
+        ensures book { book_of self.new ≡ with_entry row (next_in (book_of self.old) row event) (book_of self.old) }
         ensures rest { KeepsRest self.old self.new }
     {
-        if index >= self.rows.len() {
+        if row >= self.rows.len() {
             return false;
         }
-        let row = &mut self.rows[index];
+        let row = &mut self.rows[row];
         row.turn(event)
     }
 }

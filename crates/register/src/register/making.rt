@@ -4,11 +4,10 @@ ghost use Rattle.register.specs.Founding.{founding_refusal};
 ghost use Rattle.register.specs.Law.{Begins, at_founding};
 ghost use Rattle.register.specs.Registers.{founding_of, start_of, refusal_of, serial_of};
 
-use super::Register;
+use super::{MOST_ENTRIES, Register};
 use crate::founding::Founding;
 use crate::kind::Kind;
 use crate::row::Row;
-use crate::table::MOST_ENTRIES;
 use arc_rules::ArcRule;
 use std::alloc::{AllocError, Global};
 

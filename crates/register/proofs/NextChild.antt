@@ -1,14 +1,18 @@
 -- The child with the lowest arc, as one looks for it: child by child.
 use Rattle.std.proofs.Common.{◌≡◌, ℕ, ◌<◌, ◌≤◌, Bool, true, false, cond, List, [], ◌∷◌, ◌++◌, slice_get, nat_le, nat_lt, Some, None, Option, refl, sym, ap, ◌∙◌, append-nil, arith}
 use Rattle.std.proofs.lemmas.Bool.{cond-true, cond-false, lt-ltb, le-ltb, ltb-true, ltb-false, le-leb, lt-leb, leb-true, leb-false}
+use Rattle.std.specs.Option.{option_map_or}
 use Rattle.std.proofs.lemmas.List.Elements.{filter-append}
 use Rattle.register.specs.Book.{Entry, Book, is_child, children, arc_of_child}
-use Rattle.register.specs.Order.{put, in_order, from_arc}
-use Rattle.register.specs.Rows.{is_lower}
+use Rattle.register.specs.Order.{put, in_order, from_arc, next_child}
 use Rattle.register.proofs.Rolling.{put_cases}
 
+-- an arc is below that of a child, if there is one
+abbrev pub is_lower : ℕ → Option Entry → Bool
+is_lower arc child = option_map_or (λ child. nat_lt arc (arc_of_child child)) child true
+
 -- the first of a list whose arc is not below the one given
-abbrev pub first_of : ℕ → List Entry → Option Entry
+abbrev first_of : ℕ → List Entry → Option Entry
 first_of from listed = slice_get (from_arc from listed) 0
 
 -- one child, if its arc is not below the one given
@@ -107,7 +111,7 @@ first_more from (first ∷ listed) child =
     ∙ sym (lower_lower (only from first) (first_of from (in_order listed)) (only from child))
     ∙ ap (λ one. lower one (only from child)) (sym (first_put from first (in_order listed)))
 
-pub first_none : (from : ℕ) (o : List ℕ) → first_of from (in_order (children o [])) ≡ None
+pub first_none : (from : ℕ) (o : List ℕ) → next_child from (children o []) ≡ None
 unfolding in_order children
 first_none from o = refl
 
@@ -121,14 +125,14 @@ module _ (o : List ℕ) (book : Book) (row : Entry) where
   child_apart apart =
       filter-append (is_child o) book (row ∷ []) ∙ ap (λ more. children o book ++ more) (cond-false _ _ _ apart) ∙ append-nil (children o book)
 
-  module _ (from : ℕ) (lowest : Option Entry) (so_far : lowest ≡ first_of from (in_order (children o book))) where
+  module _ (from : ℕ) (lowest : Option Entry) (so_far : lowest ≡ next_child from (children o book)) where
     -- what is no child leaves the lowest; so does a child whose arc is below the one given, or not below the lowest; any other is the lowest now
-    pub no_child : is_child o row ≡ false → lowest ≡ first_of from (in_order (children o (book ++ row ∷ [])))
-    no_child apart = so_far ∙ ap (λ listed. first_of from (in_order listed)) (sym (child_apart apart))
+    pub no_child : is_child o row ≡ false → lowest ≡ next_child from (children o (book ++ row ∷ []))
+    no_child apart = so_far ∙ ap (next_child from) (sym (child_apart apart))
 
-    with_child : is_child o row ≡ true → first_of from (in_order (children o (book ++ row ∷ []))) ≡ lower lowest (only from row)
+    with_child : is_child o row ≡ true → next_child from (children o (book ++ row ∷ [])) ≡ lower lowest (only from row)
     with_child child =
-        ap (λ listed. first_of from (in_order listed)) (child_more child) ∙ first_more from (children o book) row
+        ap (next_child from) (child_more child) ∙ first_more from (children o book) row
         ∙ ap (λ one. lower one (only from row)) (sym so_far)
 
     -- by cases on whether it is a child
@@ -139,11 +143,11 @@ module _ (o : List ℕ) (book : Book) (row : Entry) where
         go true is = child is
         go false is = apart is
 
-    pub too_low : arc_of_child row < from → lowest ≡ first_of from (in_order (children o (book ++ row ∷ [])))
+    pub too_low : arc_of_child row < from → lowest ≡ next_child from (children o (book ++ row ∷ []))
     too_low out = unless_child (λ child. sym (with_child child ∙ ap (lower lowest) (only_out from row out) ∙ lower_none lowest)) no_child
 
     pub not_lower : from ≤ arc_of_child row → is_lower (arc_of_child row) lowest ≡ false
-        → lowest ≡ first_of from (in_order (children o (book ++ row ∷ [])))
+        → lowest ≡ next_child from (children o (book ++ row ∷ []))
     not_lower is above = unless_child (λ child. sym (with_child child ∙ ap (lower lowest) (only_here from row is) ∙ stays lowest above)) no_child
       where
         stays : (one : Option Entry) → is_lower (arc_of_child row) one ≡ false → lower one (Some row) ≡ one
@@ -151,7 +155,7 @@ module _ (o : List ℕ) (book : Book) (row : Entry) where
         stays (Some least) e = cond-false _ _ _ e
 
     pub now_lowest : from ≤ arc_of_child row → is_lower (arc_of_child row) lowest ≡ true → is_child o row ≡ true
-        → Some row ≡ first_of from (in_order (children o (book ++ row ∷ [])))
+        → Some row ≡ next_child from (children o (book ++ row ∷ []))
     now_lowest is below child = sym (with_child child ∙ ap (lower lowest) (only_here from row is) ∙ becomes lowest below)
       where
         becomes : (one : Option Entry) → is_lower (arc_of_child row) one ≡ true → lower one (Some row) ≡ Some row

@@ -9,8 +9,8 @@ use Rattle.std.proofs.lemmas.List.Folds.{find_at}
 use Rattle.register.specs.Book.{Entry, most_entries, is_at, found}
 use Rattle.register.specs.Rulings.{refuses, enters, ask}
 use Rattle.register.specs.Questions.{entering}
-use Rattle.register.specs.Grants.{with_next, next_in, book_spent}
-use Rattle.register.specs.Rows.{entry_of, book_in, turned_entry}
+use Rattle.register.specs.Changes.{with_next, turned_entry, next_in, with_entry}
+use Rattle.register.specs.Kept.{entry_of, book_in}
 use Rattle.register.specs.declared.event.Event.{Event}
 use Rattle.register.specs.declared.refusal.Refusal.TheVariants.{BookFull}
 use Rattle.register.specs.declared.row.Row.{Row}
@@ -66,15 +66,15 @@ module _ (rows : List Row) (entry : Entry) where
 -- one row with the kind that an event gives it
 pub turned_in_table : (rows : List Row) (place : ℕ) (event : Event) (row turned : Row) → place < length rows → get_or rows place row ≡ row
     → entry_of turned ≡ turned_entry event (entry_of row)
-    → book_in (slice_set rows place turned) ≡ book_spent place (next_in (book_in rows) place event) (book_in rows)
+    → book_in (slice_set rows place turned) ≡ with_entry place (next_in (book_in rows) place event) (book_in rows)
 turned_in_table rows place event row turned within is becomes =
     map-set entry_of rows place turned ∙ ap (slice_set (book_in rows) place) becomes ∙ go (with_next event (entry_of row))
-    ∙ ap (λ next. book_spent place next (book_in rows)) (sym (ap (option_and_then (with_next event)) there))
+    ∙ ap (λ next. with_entry place next (book_in rows)) (sym (ap (option_and_then (with_next event)) there))
   where
     there : slice_get (book_in rows) place ≡ Some (entry_of row)
     there = slice_get-map entry_of rows place ∙ ap (option_map entry_of) (slice_get-get_or rows place row within ∙ ap Some is)
 
-    go : (next : Option Entry) → slice_set (book_in rows) place (unwrap_or next (entry_of row)) ≡ book_spent place next (book_in rows)
+    go : (next : Option Entry) → slice_set (book_in rows) place (unwrap_or next (entry_of row)) ≡ with_entry place next (book_in rows)
     go None =
         ap (slice_set (book_in rows) place) (sym (get_or-map entry_of rows place row (entry_of row) within ∙ ap entry_of is))
         ∙ set-get_or (book_in rows) place (entry_of row)
