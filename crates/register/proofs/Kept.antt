@@ -1,4 +1,4 @@
--- The rows of a table, one after the other.
+-- The rows that a register keeps, one after the other.
 use Rattle.std.proofs.Common.{◌≡◌, ℕ, ◌+◌, ◌<◌, ◌≤◌, Bool, cond, List, [], ◌∷◌, ◌++◌, length, get_or, take, not, find, position, slice_get, slice_set, unwrap_or, Some, None, Option, nat_lt, refl, sym, ap, ◌∙◌, subst, arith}
 use Rattle.std.specs.List.{position_or_len}
 use Rattle.std.specs.Option.{option_map, option_and_then}

@@ -1,6 +1,6 @@
 // The register: rows, two rules, and a serial.
 ghost use Rattle.std.specs.Prelude.{◌≡◌, ◌≤◌, [], vec_len};
-ghost use Rattle.std.specs.Option.{ForSome};
+ghost use Rattle.std.specs.Option.{ForSome, ForNone};
 ghost use Rattle.std.specs.Vec.{vec_capacity};
 ghost use Rattle.register.specs.Book.{most_entries};
 
@@ -19,7 +19,7 @@ use crate::row::Row;
 pub const MOST_ENTRIES: usize = 512;
 
 // A register, with a rule for the arcs of panels and one for those of authorities. The room for all rows is there from the
-// founding on, so storing a row needs no memory. A register that was refused has no row, and never gets one.
+// founding on, so storing a row needs no memory. A register that was refused has no row, never gets one, and needs no room.
 #[derive(Drop)]
 pub struct Register<P, A> {
     rows: Vec<Row>,
@@ -28,6 +28,6 @@ pub struct Register<P, A> {
     serial: u32,
     refused_for: Option<FoundingRefusal>,
     ghost few: { vec_len rows ≤ most_entries },
-    ghost room: { most_entries ≤ vec_capacity rows },
+    ghost room: { ForNone refused_for (most_entries ≤ vec_capacity rows) },
     ghost emptied: { ForSome refused_for (λ _. rows.items ≡ []) },
 }

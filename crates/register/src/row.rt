@@ -1,4 +1,4 @@
-// The rows of a register's table.
+// The rows of a register.
 ghost use Rattle.std.specs.Prelude.{◌≡◌, ◌≤◌, ◌^◌, is_some};
 ghost use Rattle.oid.specs.Meaning.{arcs_of};
 ghost use Rattle.register.specs.Book.{is_at, is_child, arc_of_child};
