@@ -5,10 +5,10 @@ use Rattle.std.proofs.lemmas.List.{length_push}
 use Rattle.std.specs.List.{list_any}
 use Rattle.std.specs.Option.{option_eq}
 use Rattle.oid.specs.Tree.{parent_of}
-use Rattle.register.specs.Book.{same, is_child, children, arc_of_child, is_taken}
+use Rattle.book.specs.Book.{same, is_child, children, arc_of_child, is_taken}
 use Rattle.register.specs.Kept.{entry_of, book_in, has_arc}
 use Rattle.register.specs.declared.row.Row.{Row}
-use Rattle.register.proofs.Identifiers.{same_true, parent_of_child, and_true}
+use Rattle.book.proofs.Identifiers.{same_true, parent_of_child, and_true}
 
 -- the parent of a list is an authority where all but its last arc is that authority
 pub child_by_front : (front authority : List ℕ) (last : ℕ) → 2 ≤ length authority

@@ -6,8 +6,8 @@ use Rattle.oid.specs.Arcs.{arc_limit, is_arc, next_arc}
 use Rattle.arc_rules.specs.Sets.{ArcSet}
 use Rattle.arc_rules.specs.Lowest.{IsLowest}
 use Rattle.arc_rules.proofs.Theorems.{only_lowest}
-use Rattle.register.specs.Book.{Entry, is_taken}
-use Rattle.register.specs.Free.{untaken, free_arc}
+use Rattle.book.specs.Book.{Entry, is_taken}
+use Rattle.book.specs.Free.{untaken, free_arc}
 
 module _ (set : ArcSet) (siblings : List Entry) where
   -- what is not in the set, or is taken, is not free

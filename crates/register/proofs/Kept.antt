@@ -6,13 +6,13 @@ use Rattle.std.proofs.lemmas.Bool.{cond-true, cond-false, ltb-true, lt-ltb, le-l
 use Rattle.std.proofs.lemmas.Option.{cond_some, none-some, slice_get_within, slice_get-get_or, slice_get-map}
 use Rattle.std.proofs.lemmas.List.{take_more, map_push, length-map, map-set, get_or-map, set-get_or}
 use Rattle.std.proofs.lemmas.List.Folds.{find_at}
-use Rattle.register.specs.Book.{Entry, most_entries, is_at, found}
-use Rattle.register.specs.Rulings.{refuses, enters, ask}
-use Rattle.register.specs.Questions.{entering}
-use Rattle.register.specs.Changes.{with_next, turned_entry, next_in, with_entry}
+use Rattle.book.specs.Book.{Entry, most_entries, is_at, found}
+use Rattle.book.specs.Rulings.{refuses, enters, ask}
+use Rattle.book.specs.Questions.{entering}
+use Rattle.book.specs.Changes.{with_next, turned_entry, next_in, with_entry}
 use Rattle.register.specs.Kept.{entry_of, book_in}
-use Rattle.register.specs.declared.event.Event.{Event}
-use Rattle.register.specs.declared.refusal.Refusal.TheVariants.{BookFull}
+use Rattle.book.specs.declared.event.Event.{Event}
+use Rattle.book.specs.declared.refusal.Refusal.TheVariants.{BookFull}
 use Rattle.register.specs.declared.row.Row.{Row}
 
 -- the book of some first rows, with the next

@@ -3,9 +3,9 @@ use Rattle.std.proofs.Common.{◌≡◌, ℕ, ◌<◌, ◌≤◌, Bool, true, fa
 use Rattle.std.proofs.lemmas.Bool.{cond-true, cond-false, lt-ltb, le-ltb, ltb-true, ltb-false, le-leb, lt-leb, leb-true, leb-false}
 use Rattle.std.specs.Option.{option_map_or}
 use Rattle.std.proofs.lemmas.List.Elements.{filter-append}
-use Rattle.register.specs.Book.{Entry, Book, is_child, children, arc_of_child}
-use Rattle.register.specs.Order.{put, in_order, from_arc, next_child}
-use Rattle.register.proofs.Rolling.{put_cases}
+use Rattle.book.specs.Book.{Entry, Book, is_child, children, arc_of_child}
+use Rattle.book.specs.Order.{put, in_order, from_arc, next_child}
+use Rattle.book.proofs.Rolling.{put_cases}
 
 -- an arc is below that of a child, if there is one
 abbrev pub is_lower : ℕ → Option Entry → Bool

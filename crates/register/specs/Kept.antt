@@ -1,7 +1,7 @@
 -- What the register keeps: rows, and the book that they stand for.
 use Rattle.std.specs.Prelude.{ℕ, Bool, ◌&&◌, List, map, ◌==◌}
 use Rattle.oid.specs.Meaning.{arcs_of}
-use Rattle.register.specs.Book.{Entry, Book, is_child, arc_of_child}
+use Rattle.book.specs.Book.{Entry, Book, is_child, arc_of_child}
 use Rattle.register.specs.declared.row.Row.{Row}
 
 -- the entry that a row stands for

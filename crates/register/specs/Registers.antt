@@ -4,15 +4,15 @@ use Rattle.std.specs.Vec.{SameBlock}
 use Rattle.oid.specs.Meaning.{arcs_of}
 use Rattle.oid.specs.declared.identifier.Identifier.{Identifier}
 use Rattle.arc_rules.specs.Rules.{Meaning}
-use Rattle.register.specs.Book.{Book}
-use Rattle.register.specs.Rulings.{Answer, refused, named, Ruling, answer_of, book_after}
-use Rattle.register.specs.Questions.{Rules}
-use Rattle.register.specs.Founding.{Founding}
-use Rattle.register.specs.Law.{Start}
+use Rattle.book.specs.Book.{Book}
+use Rattle.book.specs.Rulings.{Answer, refused, named, Ruling, answer_of, book_after}
+use Rattle.book.specs.Questions.{Rules}
+use Rattle.book.specs.Founding.{Founding}
+use Rattle.book.specs.Law.{Start}
 use Rattle.register.specs.Kept.{book_in}
 use Rattle.register.specs.declared.founding.Founding as code
-use Rattle.register.specs.declared.founding.FoundingRefusal.{FoundingRefusal}
-use Rattle.register.specs.declared.refusal.Refusal.{Refusal}
+use Rattle.book.specs.declared.founding.FoundingRefusal.{FoundingRefusal}
+use Rattle.book.specs.declared.refusal.Refusal.{Refusal}
 use Rattle.register.specs.declared.register.Register.{Register}
 
 -- a register's book, by its rows

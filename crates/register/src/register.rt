@@ -2,7 +2,7 @@
 ghost use Rattle.std.specs.Prelude.{◌≡◌, ◌≤◌, [], vec_len};
 ghost use Rattle.std.specs.Option.{ForSome, ForNone};
 ghost use Rattle.std.specs.Vec.{vec_capacity};
-ghost use Rattle.register.specs.Book.{most_entries};
+ghost use Rattle.book.specs.Book.{most_entries};
 
 mod changing;
 mod finding;
@@ -12,8 +12,8 @@ mod making;
 mod order;
 mod telling;
 
-use crate::founding::FoundingRefusal;
 use crate::row::Row;
+use book::FoundingRefusal;
 
 // The most entries that a register has.
 pub const MOST_ENTRIES: usize = 512;

@@ -1,14 +1,13 @@
 // The rows of a register.
 ghost use Rattle.std.specs.Prelude.{◌≡◌, ◌≤◌, ◌^◌, is_some};
 ghost use Rattle.oid.specs.Meaning.{arcs_of};
-ghost use Rattle.register.specs.Book.{is_at, is_child, arc_of_child};
-ghost use Rattle.register.specs.Changes.{turned_entry};
+ghost use Rattle.book.specs.Book.{is_at, is_child, arc_of_child};
+ghost use Rattle.book.specs.Changes.{turned_entry};
 ghost use Rattle.register.specs.Kept.{entry_of, has_arc};
-ghost use Rattle.register.specs.Kinds.{next_kind};
-ghost use Rattle.register.specs.Left.{counted};
+ghost use Rattle.book.specs.Kinds.{next_kind};
+ghost use Rattle.book.specs.Left.{counted};
 
-use crate::event::Event;
-use crate::kind::Kind;
+use book::{Event, Kind};
 use oid::{Arc, Identifier};
 
 // An entry, as the register keeps it.

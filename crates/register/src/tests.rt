@@ -1,7 +1,8 @@
 // The rows of a register: founded, entered, counted, searched and turned.
 use crate::row::Row;
-use crate::{Event, Founding, Kind, MOST_ENTRIES, Refusal, Register};
+use crate::{Founding, MOST_ENTRIES, Register};
 use arc_rules::{Listed, Range};
+use book::{Event, Kind, Refusal};
 use oid::{Arc, Identifier, next_arc};
 use std::alloc::{AllocError, Global};
 use std::test::Fail;

@@ -1,14 +1,13 @@
 // How the rows of a register change: one is entered, or gets another kind.
 ghost use Rattle.std.specs.Prelude.{◌≡◌, None, is_some};
-ghost use Rattle.register.specs.Changes.{next_in, with_entry};
+ghost use Rattle.book.specs.Changes.{next_in, with_entry};
 ghost use Rattle.register.specs.Kept.{entry_of};
-ghost use Rattle.register.specs.Questions.{entering};
+ghost use Rattle.book.specs.Questions.{entering};
 ghost use Rattle.register.specs.Registers.{book_of, refusal_of, answer_named, Follows, KeepsRest};
 
 use super::{MOST_ENTRIES, Register};
-use crate::event::Event;
-use crate::refusal::Refusal;
 use crate::row::Row;
+use book::{Event, Refusal};
 use oid::Identifier;
 
 impl<P, A> Register<P, A> {

@@ -2,7 +2,7 @@
 ghost use Rattle.std.specs.Prelude.{◌≡◌, position};
 ghost use Rattle.std.specs.Option.{option_map};
 ghost use Rattle.oid.specs.Meaning.{arcs_of};
-ghost use Rattle.register.specs.Book.{is_at, found};
+ghost use Rattle.book.specs.Book.{is_at, found};
 ghost use Rattle.register.specs.Kept.{entry_of};
 ghost use Rattle.register.specs.Registers.{book_of};
 

@@ -1,8 +1,8 @@
 // The arcs that no child of an authority has.
 ghost use Rattle.std.specs.Prelude.{◌≡◌};
 ghost use Rattle.oid.specs.Meaning.{arcs_of};
-ghost use Rattle.register.specs.Book.{children, is_taken};
-ghost use Rattle.register.specs.Free.{free_arc};
+ghost use Rattle.book.specs.Book.{children, is_taken};
+ghost use Rattle.book.specs.Free.{free_arc};
 ghost use Rattle.register.specs.Registers.{book_of, rules_of};
 
 use super::Register;

@@ -1,12 +1,12 @@
 // What the authorities of a register have left.
 ghost use Rattle.std.specs.Prelude.{◌≡◌};
 ghost use Rattle.oid.specs.Meaning.{arcs_of};
-ghost use Rattle.register.specs.Book.{children};
-ghost use Rattle.register.specs.Left.{used, told_left};
+ghost use Rattle.book.specs.Book.{children};
+ghost use Rattle.book.specs.Left.{used, told_left};
 ghost use Rattle.register.specs.Registers.{book_of};
 
 use super::Register;
-use crate::refusal::Refusal;
+use book::Refusal;
 use oid::Identifier;
 
 impl<P, A> Register<P, A> {

@@ -1,14 +1,14 @@
 // A register founded.
 ghost use Rattle.std.specs.Prelude.{◌≡◌, IfOk, IfSome, IsOk};
-ghost use Rattle.register.specs.Founding.{founding_refusal};
-ghost use Rattle.register.specs.Law.{Begins, at_founding};
+ghost use Rattle.book.specs.Founding.{founding_refusal};
+ghost use Rattle.book.specs.Law.{Begins, at_founding};
 ghost use Rattle.register.specs.Registers.{founding_of, start_of, refusal_of, serial_of};
 
 use super::{MOST_ENTRIES, Register};
 use crate::founding::Founding;
-use crate::kind::Kind;
 use crate::row::Row;
 use arc_rules::ArcRule;
+use book::Kind;
 use std::alloc::{AllocError, Global};
 
 impl<P: ArcRule + Drop, A: ArcRule + Drop> Register<P, A> {

@@ -2,9 +2,9 @@
 ghost use Rattle.std.specs.Prelude.{◌≡◌, true, nat_lt};
 ghost use Rattle.std.specs.Option.{option_map, option_map_or, option_copied};
 ghost use Rattle.oid.specs.Meaning.{arcs_of};
-ghost use Rattle.register.specs.Book.{children, arc_of_child};
+ghost use Rattle.book.specs.Book.{children, arc_of_child};
 ghost use Rattle.register.specs.Kept.{entry_of};
-ghost use Rattle.register.specs.Order.{next_child};
+ghost use Rattle.book.specs.Order.{next_child};
 ghost use Rattle.register.specs.Registers.{book_of};
 
 use super::Register;

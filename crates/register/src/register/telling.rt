@@ -1,10 +1,10 @@
 // What a register tells of its founding.
 ghost use Rattle.std.specs.Prelude.{◌≡◌, ◌≢◌, [], IfSome};
-ghost use Rattle.register.specs.Founding.{founding_number};
+ghost use Rattle.book.specs.Founding.{founding_number};
 ghost use Rattle.register.specs.Registers.{book_of, refusal_of};
 
 use super::Register;
-use crate::founding::FoundingRefusal;
+use book::FoundingRefusal;
 
 impl<P, A> Register<P, A> {
     // Why the founding was refused, if it was; the book is then empty.

@@ -2,8 +2,8 @@ use Rattle.std.proofs.Common.{sym, ap, ◌∙◌, arith}
 use Rattle.std.proofs.lemmas.List.{take_all}
 use Rattle.std.specs.Option.{option_map, option_copied}
 use Rattle.oid.specs.Meaning.{arcs_of}
-use Rattle.register.specs.Book.{children}
-use Rattle.register.specs.Order.{next_child}
+use Rattle.book.specs.Book.{children}
+use Rattle.book.specs.Order.{next_child}
 use Rattle.register.specs.Kept.{entry_of, book_in}
 use Rattle.register.proofs.NextChild.{is_lower, first_none, no_child, too_low, not_lower, now_lowest}
 use Rattle.register.proofs.Kept.{book_more}

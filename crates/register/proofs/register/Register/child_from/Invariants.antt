@@ -1,9 +1,9 @@
 use Rattle.std.proofs.Common.{◌≡◌, take}
 use Rattle.std.specs.Option.{option_map, option_copied}
 use Rattle.oid.specs.Meaning.{arcs_of}
-use Rattle.register.specs.Book.{children}
+use Rattle.book.specs.Book.{children}
 use Rattle.register.specs.Kept.{entry_of, book_in}
-use Rattle.register.specs.Order.{next_child}
+use Rattle.book.specs.Order.{next_child}
 use Rattle.register.proofs.register.Register.child_from.Given as goal
 
 -- it is the next among the first rows

@@ -1,7 +1,7 @@
 use Rattle.std.proofs.Common.{sym, ap, ◌∙◌, arith}
 use Rattle.std.proofs.lemmas.List.{map_push}
 use Rattle.register.specs.Kept.{entry_of, book_in}
-use Rattle.register.specs.Rulings.{answer_of, book_after}
+use Rattle.book.specs.Rulings.{answer_of, book_after}
 use Rattle.register.proofs.Kept.{no_room, some_room}
 use Rattle.register.proofs.register.Register.enter.Goals as goal
 

@@ -1,8 +1,8 @@
 use Rattle.std.proofs.Common.{◌≡◌, ℕ, ◌+◌, ◌-◌, ◌<◌, false}
 use Rattle.oid.specs.Arcs.{arc_limit}
 use Rattle.oid.specs.Meaning.{arcs_of}
-use Rattle.register.specs.Book.{children}
-use Rattle.register.specs.Free.{untaken}
+use Rattle.book.specs.Book.{children}
+use Rattle.book.specs.Free.{untaken}
 use Rattle.register.specs.Registers.{book_of}
 use Rattle.register.proofs.register.Register.free_arc.Given as goal
 

@@ -2,11 +2,11 @@ use Rattle.std.proofs.Common.{◌≡◌, ◌-◌, Ok, Some, sym, ap, ◌∙◌}
 use Rattle.std.proofs.lemmas.Bool.{cond-true, cond-false}
 use Rattle.std.specs.Option.{option_map}
 use Rattle.oid.specs.Meaning.{arcs_of}
-use Rattle.register.specs.Book.{found, children}
+use Rattle.book.specs.Book.{found, children}
 use Rattle.register.specs.Kept.{entry_of}
-use Rattle.register.specs.Left.{used, left, left_of}
+use Rattle.book.specs.Left.{used, left, left_of}
 use Rattle.register.specs.Registers.{book_of}
-use Rattle.register.proofs.Rows.{found_identifier}
+use Rattle.book.proofs.Rows.{found_identifier}
 use Rattle.register.proofs.register.Register.left.Goals as goal
 
 pub returns-then-not-is_authority : goal.returns-then-not-is_authority

@@ -2,7 +2,7 @@ use Rattle.std.proofs.Common.{rules, tests, sym, ◌∙◌}
 use Rattle.std.proofs.lemmas.Iterator.{YieldsList-from_slice}
 use Rattle.std.proofs.lemmas.Iterator.Search.{position_from_yields_List}
 use Rattle.oid.specs.Meaning.{arcs_of}
-use Rattle.register.specs.Book.{is_at}
+use Rattle.book.specs.Book.{is_at}
 use Rattle.register.specs.Kept.{entry_of}
 use Rattle.register.proofs.Kept.{position_in_book}
 use Rattle.register.proofs.register.Register.row_at.Goals as goal

@@ -1,11 +1,11 @@
 use Rattle.std.proofs.Common.{[], sym, ap, ◌∙◌, arith}
 use Rattle.std.proofs.lemmas.Bool.{cond-true, cond-false}
 use Rattle.oid.specs.Meaning.{arcs_of}
-use Rattle.register.specs.Book.{children}
+use Rattle.book.specs.Book.{children}
 use Rattle.register.specs.Kept.{entry_of}
-use Rattle.register.specs.Left.{counted, used}
+use Rattle.book.specs.Left.{counted, used}
 use Rattle.register.proofs.Kept.{book_more}
-use Rattle.register.proofs.Shares.{used_is, used_more}
+use Rattle.book.proofs.Shares.{used_is, used_more}
 use Rattle.register.proofs.register.Register.used_below.Goals.{then-is_child, else-is_child}
 use Rattle.register.proofs.register.Register.used_below.Goals as goal
 

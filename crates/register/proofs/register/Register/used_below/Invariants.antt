@@ -1,7 +1,7 @@
 use Rattle.std.proofs.Common.{◌≡◌, ◌≤◌, ◌*◌, ◌^◌, take}
 use Rattle.oid.specs.Meaning.{arcs_of}
-use Rattle.register.specs.Book.{children}
-use Rattle.register.specs.Left.{used}
+use Rattle.book.specs.Book.{children}
+use Rattle.book.specs.Left.{used}
 use Rattle.register.specs.Kept.{book_in}
 use Rattle.register.proofs.register.Register.used_below.Given as goal
 

@@ -3,7 +3,7 @@ use Rattle.std.specs.Option.{option_eq}
 use Rattle.oid.specs.Meaning.{arcs_of}
 use Rattle.oid.specs.Tree.{is_identifier, parent_of}
 use Rattle.oid.proofs.Tree.{some_arcs}
-use Rattle.register.specs.Book.{same}
+use Rattle.book.specs.Book.{same}
 use Rattle.register.proofs.Children.{child_by_front}
 use Rattle.register.proofs.row.Row.is_child.Goals as goal
 

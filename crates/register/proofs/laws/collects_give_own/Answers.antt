@@ -1,6 +1,0 @@
--- By the theorem.
-use Rattle.register.proofs.GrantRows.{collects_give_own}
-use Rattle.register.proofs.laws.collects_give_own.Goals as goal
-
-pub returns : goal.returns
-returns c = collects_give_own
