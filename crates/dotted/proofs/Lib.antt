@@ -9,3 +9,4 @@ pub mod Accepting
 pub mod Moving
 pub mod Theorems
 pub mod Misfits
+pub mod Within

@@ -19,17 +19,17 @@ use Rattle.dotted.specs.Pieces.{Piece, longer, pieces_from, number_in, numbers_f
 abbrev pub piece : ℕ → List ℕ → Piece
 piece offset digits = record { offset = offset; digits = digits }
 
--- where the first piece ends: at the first dot, or where the text does
-pub end_of_first : (text : List ℕ) (found : Option ℕ) → found ≡ position is_dot text
-    → unwrap_or found (length text) ≡ position_or_len is_dot text
-end_of_first text found e = ap (λ o. unwrap_or o (length text)) e
+-- where what stands before the first byte of some kind ends: at that byte, or where the text does
+pub end_of_first : (test : ℕ → Bool) (text : List ℕ) (found : Option ℕ) → found ≡ position test text
+    → unwrap_or found (length text) ≡ position_or_len test text
+end_of_first test text found e = ap (λ o. unwrap_or o (length text)) e
     ∙ ⊎_elim
     (λ inside. ap (λ v. unwrap_or (cond v (Some n) None) (length text)) (lt-ltb n (length text) inside))
-    (λ past. let all : length text ≡ n = omega (arith, prefix_len-le-length (λ byte. not (is_dot byte)) text) in ap (λ v. unwrap_or (cond v (Some n) None) (length text)) (le-ltb n (length text) past) ∙ all)
+    (λ past. let all : length text ≡ n = omega (arith, prefix_len-le-length (λ byte. not (test byte)) text) in ap (λ v. unwrap_or (cond v (Some n) None) (length text)) (le-ltb n (length text) past) ∙ all)
     (cases_lt n (length text))
   where
     n : ℕ
-    n = position_or_len is_dot text
+    n = position_or_len test text
 
 -- the pieces of what follows so many bytes, and none where the text has fewer
 abbrev pub pieces_behind : ℕ → ℕ → List ℕ → List Piece

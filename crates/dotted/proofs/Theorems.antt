@@ -48,7 +48,7 @@ prefix_moves_faults rest p =
     ∙ read_moved (length prefix) rest 0
     ∙ ap (read_further (length prefix)) (sym (plain rest p))
 
-prefix_within : (text : List ℕ) → prefix_length text ≤ length text
+pub prefix_within : (text : List ℕ) → prefix_length text ≤ length text
 unfolding prefix_length
 prefix_within text = go (begins_with text prefix) refl
   where

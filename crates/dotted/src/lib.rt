@@ -1,10 +1,10 @@
 // Dotted text: identifiers as decimal arcs with dots between them, with or without the prefix of RFC 3061.
 #![tactic(auto)]
 
-mod decimal;
+pub mod decimal;
 mod form;
 pub mod laws;
-mod pieces;
+pub mod pieces;
 mod prefix;
 pub mod reader;
 #[cfg(test)]

@@ -1,5 +1,5 @@
 // The numbers of dotted text, piece by piece.
-ghost use Rattle.std.specs.Prelude.{◌≡◌, ◌≤◌, length, drop};
+ghost use Rattle.std.specs.Prelude.{◌≡◌, ◌≤◌, ◌==◌, length, drop};
 ghost use Rattle.std.specs.Iterator.{YieldsFirst, item_count};
 ghost use Rattle.std.specs.List.{before_first};
 ghost use Rattle.oid.specs.Arcs.{arc_of};
@@ -40,19 +40,19 @@ impl Iterator for Numerals<'_> {
     ghost remaining = { item_count numerals_left };
 
     fn next(&mut self) -> Option<Numeral> {
-        let piece = first_piece(self.text.get(self.place..)?);
+        let piece = first_piece(self.text.get(self.place..)?, b'.');
         let numeral = numeral_in(piece, self.place);
         self.place += piece.len() + 1;
         Some(numeral)
     }
 }
 
-// The bytes before the first dot, or all of them.
-fn first_piece(text: &[u8]) -> &[u8]
-    ensures { result.now ≡ before_first is_dot text.now }
+// The bytes before the first separator, or all of them.
+pub fn first_piece(text: &[u8], separator: u8) -> &[u8]
+    ensures { result.now ≡ before_first (λ byte. byte == separator) text.now }
 {
-    let dot = text.iter().position(|byte| *byte == b'.');
-    &text[..dot.unwrap_or(text.len())]
+    let end = text.iter().position(|byte| *byte == separator);
+    &text[..end.unwrap_or(text.len())]
 }
 
 // The number that a piece writes, which begins at `offset`.
@@ -66,8 +66,8 @@ fn numeral_in(digits: &[u8], offset: usize) -> Numeral
     }
 }
 
-// The arc that decimal digits write; none where it is too large.
-fn arc_in(digits: &[u8]) -> Option<Arc>
+// The arc that decimal digits write; none where it is too large. Other bytes than digits are read as some digits.
+pub fn arc_in(digits: &[u8]) -> Option<Arc>
     ensures { result ≡ arc_of (decimal_value digits.now) }
 {
     let number = digits.iter().fold(0, |value, digit| {
@@ -77,7 +77,7 @@ fn arc_in(digits: &[u8]) -> Option<Arc>
 }
 
 // Whether there are two or more digits of which the first is 0.
-fn leading_zero(digits: &[u8]) -> bool
+pub fn leading_zero(digits: &[u8]) -> bool
     ensures { result ≡ leading_zero digits.now }
 {
     digits.len() > 1 && digits[0] == b'0'

@@ -1,0 +1,37 @@
+-- Numbers of fields.
+use Rattle.std.proofs.Common.{◌≡◌, ℕ, ◌<◌, false, cond, ◌&&◌, leb, List, [], ◌∷◌, Some, None, Option, refl, ap, ◌∙◌, sym, ⊎_elim, arith}
+use Rattle.std.specs.Char.{is_ascii_digit}
+use Rattle.std.specs.List.{list_all}
+use Rattle.std.specs.Option.{option_and_then}
+use Rattle.std.specs.Str.{all_ascii_digits}
+use Rattle.std.proofs.lemmas.Bool.{cases_lt, cond-false, lt-leb, and_right}
+use Rattle.oid.specs.Arcs.{arc_limit, arc_of}
+use Rattle.oid.proofs.Arcs.{arc_of_some, limit_width}
+use Rattle.book.specs.Ranges.{most_quota, last_holder}
+use Rattle.request.specs.Verbs.{Sort, a_holder, an_identifier, an_arc, a_quota}
+use Rattle.request.specs.Fields.{Part, Field, numeral, in_range, number_in}
+
+pub digits_listed : (text : List ℕ) → list_all is_ascii_digit text ≡ all_ascii_digits text
+digits_listed [] = refl
+digits_listed (byte ∷ text) = ap (λ v. is_ascii_digit byte && v) (digits_listed text)
+
+-- what is no arc is in no range
+large : (sort : Sort) (number : ℕ) → arc_limit < number → in_range sort number ≡ false
+large a_holder number h =
+    and_right (leb 1 number) _ (lt-leb number last_holder (omega (arith, h, limit_width 65535 (omega arith))))
+large an_identifier number h = refl
+large an_arc number h = lt-leb number arc_limit h
+large a_quota number h = lt-leb number most_quota (omega (arith, h, limit_width 511 (omega arith)))
+
+-- where no arc is written, there is no number in range
+pub no_number : (part : Part) (field : Field) → part ≡ field.part → option_and_then arc_of (numeral part.text) ≡ None → number_in field ≡ None
+no_number part field same none = go (numeral field.part.text) (ap (λ p. option_and_then arc_of (numeral p.text)) (sym same) ∙ none)
+  where
+    go : (found : Option ℕ) → option_and_then arc_of found ≡ None
+        → option_and_then (λ number. cond (in_range field.sort number) (Some number) None) found ≡ None
+    go None h = refl
+    go (Some number) h =
+        ⊎_elim
+        (λ above. cond-false (in_range field.sort number) _ _ (large field.sort number above))
+        (λ within. let z : ◌≡◌ {A = ℕ} 0 1 = cc (h, arc_of_some number within) in absurd (omega (arith, z)))
+        (cases_lt arc_limit number)

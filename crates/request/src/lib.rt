@@ -1,0 +1,16 @@
+// Request lines: from the bytes of a line to a request, and from an answer to the bytes of a page.
+#![tactic(auto)]
+
+mod field;
+mod fields;
+pub mod limits;
+mod part;
+pub mod reader;
+pub mod refusal;
+pub mod request;
+mod verb;
+
+pub use limits::{LEAST_LINE, LEAST_PAGE, LEAST_REST, MOST_LINE};
+pub use reader::read;
+pub use refusal::{Fault, LineRefusal, PageRefusal, Refusal};
+pub use request::{Reading, Request};

@@ -1,0 +1,100 @@
+// The reader of request lines.
+ghost use Rattle.std.specs.Prelude.{◌≡◌, ◌+◌, ◌<◌, ◌^◌, length};
+ghost use Rattle.std.specs.Result.{result_map_both};
+ghost use Rattle.oid.specs.Meaning.{arcs_of};
+ghost use Rattle.request.specs.Parts.{part_of};
+ghost use Rattle.request.specs.Reading.{identifier_in, call_by, read_line};
+ghost use Rattle.request.specs.Requests.{call_of_request, reading_of};
+
+use crate::fields::Fields;
+use crate::limits::is_line;
+use crate::part::{Part, Parts, SPACE};
+use crate::refusal::{Fault, LineRefusal, Refusal};
+use crate::request::{Reading, Request};
+use crate::verb::Verb;
+use dotted::pieces::first_piece;
+use oid::Identifier;
+
+// Reads a line, any bytes, as a request, or finds the first fault of its text.
+#[tactic(auto, unfolding(crate::specs::Reading::read_line))]
+pub fn read(line: &[u8]) -> Result<Reading, Fault>
+    ensures value { result_map_both reading_of (λ fault. fault) result ≡ read_line line.now }
+{
+    if !is_line(line) {
+        return Err(LineRefusal::LineLength.at(0));
+    }
+    let word = first_piece(line, SPACE);
+    let Some(verb) = Verb::of(word) else {
+        return Err(LineRefusal::UnknownVerb.at(0));
+    };
+    let parts = Parts {
+        line,
+        place: word.len() + 1,
+    };
+    let Some(fields) = Fields::of(verb, parts) else {
+        return Err(LineRefusal::WrongFields.at(0));
+    };
+    let numbers = fields.numbers()?;
+    let part = fields.identifier.part();
+    let identifier = identifier_in(part)?;
+    Ok(Reading {
+        request: request(verb, numbers, identifier),
+        offset: part.offset,
+    })
+}
+
+// The identifier that a part of a line is, or the fault of its text, further on by where the part begins.
+fn identifier_in(part: Part<'_>) -> Result<Identifier, Fault>
+    requires { part.offset + length part.text.now < 2 ^ 64 }
+    ensures { result_map_both arcs_of (λ fault. fault) result ≡ identifier_in (part_of part.entry) }
+{
+    let mut identifier = Identifier::smallest();
+    if let Err(fault) = dotted::read(part.text, &mut identifier) {
+        return Err(Fault {
+            refusal: Refusal::Identifier(fault.refusal),
+            offset: part.offset + fault.offset,
+        });
+    }
+    Ok(identifier)
+}
+
+// The request that a verb makes, of the numbers in its number fields and its identifier.
+fn request(verb: Verb, numbers: [u32; 3], identifier: Identifier) -> Request
+    ensures { call_of_request result ≡ call_by verb numbers (arcs_of identifier) }
+{
+    let [holder, second, taker] = numbers;
+    match verb {
+        Verb::Grant => Request::Grant {
+            holder,
+            authority: identifier,
+        },
+        Verb::Claim => Request::Claim {
+            holder,
+            authority: identifier,
+            arc: second,
+        },
+        Verb::Offer => Request::Offer {
+            holder,
+            authority: identifier,
+            quota: second,
+            taker,
+        },
+        Verb::Accept => Request::Accept {
+            taker: holder,
+            entry: identifier,
+        },
+        Verb::Decline => Request::Decline {
+            taker: holder,
+            entry: identifier,
+        },
+        Verb::Retire => Request::Retire {
+            holder,
+            entry: identifier,
+        },
+        Verb::Roll => Request::Roll {
+            holder,
+            authority: identifier,
+            from: second,
+        },
+    }
+}
