@@ -25,12 +25,24 @@ later_more arcs i h = at_drop_more later_arcs arcs i 0 h
 pub arc_fits : (n : ℕ) → is_arc n ≡ true → n < 2 ^ 64
 arc_fits n h = omega (arith, limit_room, leb-true n arc_limit h)
 
-pub later_most : (arcs : List ℕ) → all_arcs arcs ≡ true → length (later_arcs arcs) ≤ 21 * length arcs
-unfolding all_arcs
-later_most [] h = omega arith
-later_most (arc ∷ arcs) h =
-    let parts = and_parts (is_arc arc) (all_arcs arcs) h in
-    omega (arith, length-append (after_dot arc) (later_arcs arcs), length_most arc (arc_fits arc parts.0), later_most arcs parts.1)
+-- where no arc has more than so many digits
+module _ (most : ℕ) (bounded : (arc : ℕ) → is_arc arc ≡ true → length (decimal arc) ≤ most) where
+  later_within : (arcs : List ℕ) → all_arcs arcs ≡ true → length (later_arcs arcs) ≤ length arcs * (1 + most)
+  unfolding all_arcs
+  later_within [] h = omega arith
+  later_within (arc ∷ arcs) h =
+      let parts = and_parts (is_arc arc) (all_arcs arcs) h in
+      omega (arith, length-append (after_dot arc) (later_arcs arcs), bounded arc parts.0, later_within arcs parts.1)
+
+  -- the text has them, and a dot with each but one
+  pub text_within : (arcs : List ℕ) → is_identifier arcs ≡ true → length (dotted_text arcs) + 1 ≤ length arcs * (1 + most)
+  unfolding dotted_text
+  text_within arcs h = go arcs (keeps arcs h)
+    where
+      go : (list : List ℕ) → Keeps list → length (dotted_text list) + 1 ≤ length list * (1 + most)
+      go [] k = absurd (omega (arith, k.long))
+      go (arc ∷ list) k =
+          omega (arith, length-append (decimal arc) (later_arcs list), length-append (after_dot arc) (later_arcs list), later_within (arc ∷ list) k.each)
 
 -- a dot with each arc is one more than the text has
 pub length_with_dots : (arcs : List ℕ) → is_identifier arcs ≡ true
@@ -48,9 +60,6 @@ length_with_dots arcs h = go arcs (keeps arcs h).long
         ∙ sym (length-flat_map after_dot (arc ∷ list)) ∙ one (length (decimal arc ++ later_arcs list))
 
 pub text_most : (arcs : List ℕ) → is_identifier arcs ≡ true → length (dotted_text arcs) ≤ text_limit
-unfolding dotted_text
-text_most arcs h = go arcs (keeps arcs h)
-  where
-    go : (list : List ℕ) → Keeps list → length (dotted_text list) ≤ text_limit
-    go [] k = omega arith
-    go (arc ∷ list) k = omega (arith, k.short, length-append (decimal arc) (later_arcs list), length-append (after_dot arc) (later_arcs list), later_most (arc ∷ list) k.each)
+text_most arcs h =
+    let short = (keeps arcs h).short in
+    omega (arith, short, text_within 20 (λ arc e. length_most arc (arc_fits arc e)) arcs h)

@@ -24,7 +24,7 @@ use Rattle.dotted.proofs.Spelling.{digits_of}
 use Rattle.dotted.proofs.Texts.{later_arcs, arc_fits}
 
 -- a text is read as some arcs exactly when it is their text, after any prefix
-accepts : (text arcs : List ℕ) → (read_dotted text ≡ Ok arcs → Writes text arcs) × (Writes text arcs → read_dotted text ≡ Ok arcs)
+pub accepts : (text arcs : List ℕ) → (read_dotted text ≡ Ok arcs → Writes text arcs) × (Writes text arcs → read_dotted text ≡ Ok arcs)
 unfolding read_dotted
 accepts text arcs = (
   text_read (drop (prefix_length text) text) (prefix_length text) arcs,
@@ -129,7 +129,7 @@ text_begins arcs h = go arcs (keeps arcs h).long (keeps arcs h).each
         digits_begin (decimal arc) (later_arcs list) (digits_of arc fits) (decimal_nonempty arc fits)
 
 -- what begins with a digit has no prefix
-no_prefix : (text : List ℕ) → begins_with_digit text ≡ true → prefix_length text ≡ 0
+pub no_prefix : (text : List ℕ) → begins_with_digit text ≡ true → prefix_length text ≡ 0
 unfolding prefix_length prefix
 no_prefix text digit = go (begins_with text prefix) refl
   where

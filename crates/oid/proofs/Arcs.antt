@@ -25,6 +25,15 @@ pub limit_width : (n : ℕ) → n < 2 ^ 32 → n ≤ arc_limit
 unfolding arc_limit
 limit_width n fits = omega (arith, fits)
 
+-- an arc has no more digits in decimal
+abbrev pub arc_digits : ℕ
+arc_digits = 10
+
+--
+pub limit_decimal : arc_limit < 10 ^ arc_digits
+unfolding arc_limit
+limit_decimal = omega arith
+
 pub arc_of_some : (n : ℕ) → n ≤ arc_limit → arc_of n ≡ Some n
 arc_of_some n h = cond-true (is_arc n) _ _ (le-leb n arc_limit h)
 

@@ -41,7 +41,7 @@ last parts ends found more front is e same =
     go false = refl
 
 -- the fields in a form stand for what the form says
-sorts : (form : List Sort) (parts : List Part) (fields : List Field) → in_form form parts ≡ Some fields → map (λ f. f.sort) fields ≡ form
+pub sorts : (form : List Sort) (parts : List Part) (fields : List Field) → in_form form parts ≡ Some fields → map (λ f. f.sort) fields ≡ form
 unfolding in_form
 sorts [] [] fields is = ap (λ l. map (λ f. f.sort) l) (sym (same_Some _ _ is))
 sorts [] (part ∷ parts) fields is = absurd (none-some _ is)
@@ -55,7 +55,7 @@ sorts (sort ∷ form) (part ∷ parts) fields is = go (ltb 0 (length part.text))
     go true (Some l) others h = ap (λ m. map (λ f. f.sort) m) (sym (same_Some _ _ h)) ∙ ap (λ m. sort ∷ m) (others l refl)
 
 -- fields none of which is an identifier's are all number fields
-all_numbers : (fields : List Field) → list_all (λ sort. not (is_identifier_sort sort)) (map (λ f. f.sort) fields) ≡ true
+pub all_numbers : (fields : List Field) → list_all (λ sort. not (is_identifier_sort sort)) (map (λ f. f.sort) fields) ≡ true
     → number_fields fields ≡ fields
 all_numbers [] h = refl
 all_numbers (f ∷ fields) h =
@@ -63,7 +63,7 @@ all_numbers (f ∷ fields) h =
     cond-true (not (is_identifier_sort f.sort)) _ _ parts.0 ∙ ap (λ l. f ∷ l) (all_numbers fields parts.1)
 
 -- what is behind the first two fields of a verb has no identifier
-no_more : (verb : Verb) → list_all (λ sort. not (is_identifier_sort sort)) (drop 2 (form_of verb)) ≡ true
+pub no_more : (verb : Verb) → list_all (λ sort. not (is_identifier_sort sort)) (drop 2 (form_of verb)) ≡ true
 no_more Grant = refl
 no_more Claim = refl
 no_more Offer = refl
@@ -72,7 +72,7 @@ no_more Decline = refl
 no_more Retire = refl
 no_more Roll = refl
 
-first_two : (verb : Verb) → form_of verb ≡ a_holder ∷ an_identifier ∷ drop 2 (form_of verb)
+pub first_two : (verb : Verb) → form_of verb ≡ a_holder ∷ an_identifier ∷ drop 2 (form_of verb)
 first_two Grant = refl
 first_two Claim = refl
 first_two Offer = refl

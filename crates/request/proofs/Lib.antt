@@ -2,3 +2,11 @@ pub mod Walking
 pub mod Numbers
 pub mod Forms
 pub mod Asking
+pub mod Putting
+pub mod Fitting
+pub mod Spelled
+pub mod Wording
+pub mod FromWords
+pub mod ToWords
+pub mod Asked
+pub mod Unprefixed

@@ -16,7 +16,7 @@ digits_listed [] = refl
 digits_listed (byte ∷ text) = ap (λ v. is_ascii_digit byte && v) (digits_listed text)
 
 -- what is no arc is in no range
-large : (sort : Sort) (number : ℕ) → arc_limit < number → in_range sort number ≡ false
+pub large : (sort : Sort) (number : ℕ) → arc_limit < number → in_range sort number ≡ false
 large a_holder number h =
     and_right (leb 1 number) _ (lt-leb number last_holder (omega (arith, h, limit_width 65535 (omega arith))))
 large an_identifier number h = refl

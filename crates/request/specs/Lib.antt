@@ -5,4 +5,7 @@ pub mod Fields
 pub mod Reading
 pub mod Requests
 pub mod Lines
+pub mod Answers
+pub mod Written
+pub mod Fitting
 pub mod Parts

@@ -1,5 +1,5 @@
 -- Request lines as they are written: what it is for a line to ask for a call.
-use Rattle.std.specs.Prelude.{ℕ, ◌≡◌, ◌⊎◌, ◌+◌, Bool, true, false, ◌&&◌, List, [], ◌∷◌, ◌++◌, length, take, drop, decimal, Ok}
+use Rattle.std.specs.Prelude.{ℕ, ◌≡◌, ◌⊎◌, Bool, true, false, ◌&&◌, List, [], ◌∷◌, ◌++◌, length, take, drop, decimal, Ok}
 use Rattle.std.specs.List.{join_with_byte}
 use Rattle.oid.specs.Arcs.{is_arc}
 use Rattle.oid.specs.Tree.{is_identifier}

@@ -1,16 +1,23 @@
 // Request lines: from the bytes of a line to a request, and from an answer to the bytes of a page.
 #![tactic(auto)]
 
+pub mod answer;
+pub mod child;
 mod field;
 mod fields;
+pub mod laws;
 pub mod limits;
 mod part;
 pub mod reader;
 pub mod refusal;
 pub mod request;
+mod roll;
 mod verb;
+pub mod written;
 
+pub use child::Child;
 pub use limits::{LEAST_LINE, LEAST_PAGE, LEAST_REST, MOST_LINE};
 pub use reader::read;
 pub use refusal::{Fault, LineRefusal, PageRefusal, Refusal};
 pub use request::{Reading, Request};
+pub use written::Written;

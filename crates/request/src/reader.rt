@@ -2,6 +2,7 @@
 ghost use Rattle.std.specs.Prelude.{◌≡◌, ◌+◌, ◌<◌, ◌^◌, length};
 ghost use Rattle.std.specs.Result.{result_map_both};
 ghost use Rattle.oid.specs.Meaning.{arcs_of};
+ghost use Rattle.request.specs.Lines.{ReadsExactly};
 ghost use Rattle.request.specs.Parts.{part_of};
 ghost use Rattle.request.specs.Reading.{identifier_in, call_by, read_line};
 ghost use Rattle.request.specs.Requests.{call_of_request, reading_of};
@@ -19,6 +20,7 @@ use oid::Identifier;
 #[tactic(auto, unfolding(crate::specs::Reading::read_line))]
 pub fn read(line: &[u8]) -> Result<Reading, Fault>
     ensures value { result_map_both reading_of (λ fault. fault) result ≡ read_line line.now }
+    ensures exactly { ReadsExactly line.now }
 {
     if !is_line(line) {
         return Err(LineRefusal::LineLength.at(0));

@@ -11,6 +11,7 @@ use Rattle.request.specs.Requests.{reading_of}
 use Rattle.request.specs.Verbs.{verb_of}
 use Rattle.request.specs.declared.refusal.Fault.{Fault}
 use Rattle.request.proofs.Asking.{no_fields, no_numbers, no_identifier, all_read, unmapped, unmapped_none, unmapped_ok, unmapped_err, call_three, fields_found, identifier_within}
+use Rattle.request.proofs.Asked.{reads_exactly}
 use Rattle.request.proofs.reader.read.Goals as goal
 use Rattle.request.proofs.reader.read.Goals.{In-Some-of}
 
@@ -34,6 +35,7 @@ module _ (c : In-Some-of) where
 pub returns-in_default-of : goal.returns-in_default-of
 returns-in_default-of c = record {
   value = ap Err c.at-in_default-of.ensures ∙ sym (no_fields c.args.line.now (sym c.is_line.ensures ∙ c.if-not-is_line.false) c.in-Some.verb (ap verb_of (sym c.first_piece-word.ensures) ∙ sym c.in-Some.ensures) (unmapped_none split _ (sym (fields_found c.in-Some.verb c.args.line.now c.first_piece-word.result.now _ c.first_piece-word.ensures c.in_default-of.ensures))));
+  exactly = reads_exactly c.args.line.now;
 }
 
 pub returns-in_err-numbers : goal.returns-in_err-numbers
@@ -42,7 +44,7 @@ returns-in_err-numbers c =
     let f = found s in
     let p = err_from_is_err_and c.from_residual.result c.from_residual.ensures.1 in
     let no = unmapped_err three _ _ (numbers_are s _ c.in_err-numbers.ensures) in
-    record { value = ap (result_map_both reading_of (λ fault. fault)) (p.1 ∙ ap Err p.2) ∙ sym (no_numbers c.args.line.now (sized s) c.in-Some.verb (verb_is s) f.0 f.1 _ no) }
+    record { value = ap (result_map_both reading_of (λ fault. fault)) (p.1 ∙ ap Err p.2) ∙ sym (no_numbers c.args.line.now (sized s) c.in-Some.verb (verb_is s) f.0 f.1 _ no); exactly = reads_exactly c.args.line.now }
 
 -- the part of the identifier's field
 place_is : (s : In-Some-of) (place : Part) → place ≡ (field_of s.in-Some-of.fields.identifier).part → identifier_part (found s).0 ≡ place
@@ -63,7 +65,7 @@ returns-in_err-identifier c =
     let n = unmapped_ok three _ _ (numbers_are s _ c.in_ok-numbers.ensures) in
     let p = err_from_is_err_and c.from_residual-in_err-identifier.result c.from_residual-in_err-identifier.ensures.1 in
     let no = ap identifier_in (place_is s _ c.part-part.ensures) ∙ sym c.in_err-identifier.ensures in
-    record { value = ap (result_map_both reading_of (λ fault. fault)) (p.1 ∙ ap Err p.2) ∙ sym (no_identifier c.args.line.now (sized s) c.in-Some.verb (verb_is s) f.0 f.1 n.0 n.1 _ no) }
+    record { value = ap (result_map_both reading_of (λ fault. fault)) (p.1 ∙ ap Err p.2) ∙ sym (no_identifier c.args.line.now (sized s) c.in-Some.verb (verb_is s) f.0 f.1 n.0 n.1 _ no); exactly = reads_exactly c.args.line.now }
 
 pub returns : goal.returns
 returns c =
@@ -74,4 +76,4 @@ returns c =
     let arcs = arcs_of c.in_ok-identifier.identifier in
     let call = c.request.ensures ∙ ap (λ l. call_by c.in-Some.verb l arcs) (sym n.2) ∙ call_three c.in-Some.verb n.0 arcs in
     let yes = ap identifier_in same ∙ sym c.in_ok-identifier.ensures in
-    record { value = (λ k. Ok (record { call = call k; offset = (sym same k).offset })) ∙ sym (all_read c.args.line.now (sized s) c.in-Some.verb (verb_is s) f.0 f.1 n.0 n.1 arcs yes) }
+    record { value = (λ k. Ok (record { call = call k; offset = (sym same k).offset })) ∙ sym (all_read c.args.line.now (sized s) c.in-Some.verb (verb_is s) f.0 f.1 n.0 n.1 arcs yes); exactly = reads_exactly c.args.line.now }

@@ -1,0 +1,173 @@
+-- Words as they are written: none has a space, and each number and each identifier is read from its text alone.
+use Rattle.std.proofs.Common.{◌≡◌, ℕ, ◌^◌, ◌<◌, ◌⊎◌, Bool, true, false, cond, not, leb, ltb, eqb, List, [], ◌∷◌, ◌++◌, length, find, Some, None, decimal, option_and_then, refl, sym, ap, ◌∙◌, ⊎_elim, arith}
+use Rattle.std.specs.Cmp.Lexicographic.{pointwise, same_text}
+use Rattle.std.specs.List.{All, before_first, join_with_byte, list_all}
+use Rattle.std.specs.Str.{all_ascii_digits}
+use Rattle.std.proofs.lemmas.Bool.{and_parts, and_from, both_ways, cases_lt, cond-true, le-leb, leb-true, lt-ltb, ltb-true, ne_eqb, not-true, not_from_false}
+use Rattle.std.proofs.lemmas.Fmt.{decimal_nonempty}
+use Rattle.std.proofs.lemmas.List.Folds.{list_all-append}
+use Rattle.std.proofs.lemmas.List.Splits.{slice_split_none, slice_split_at, length-slice_split}
+use Rattle.std.proofs.lemmas.List.Sums.{AllPass-from_list_all}
+use Rattle.std.proofs.lemmas.Option.{none-some, same_Some, cond_some, option_and_then_some}
+use Rattle.oid.specs.Arcs.{arc_limit, is_arc}
+use Rattle.oid.specs.Tree.{all_arcs, is_identifier}
+use Rattle.oid.proofs.Arcs.{limit_room}
+use Rattle.oid.proofs.Tree.{keeps}
+use Rattle.dotted.specs.Form.{is_digit}
+use Rattle.dotted.specs.Pieces.{decimal_value, leading_zero}
+use Rattle.dotted.specs.Prefix.{prefix}
+use Rattle.dotted.specs.Writing.{dotted_text}
+use Rattle.dotted.proofs.Spelling.{digits_of, value_of, unpadded_of, written_again}
+use Rattle.dotted.proofs.Texts.{arc_fits, later_arcs}
+use Rattle.request.specs.Verbs.{Sort, verbs, verb_text, verb_of}
+use Rattle.request.specs.Fields.{space, is_space, words, Part, Field, parts_from, parts_of, is_numeral, numeral, in_range, number_in}
+use Rattle.request.specs.declared.verb.Verb.{Verb}
+use Rattle.request.specs.declared.verb.Verb.TheVariants.{Grant, Claim, Offer, Accept, Decline, Retire, Roll}
+use Rattle.request.proofs.Forms.{field}
+use Rattle.request.proofs.Numbers.{large}
+use Rattle.request.proofs.Walking.{part, next_part}
+
+-- no space is among the bytes
+abbrev pub spaceless : List ℕ → Bool
+spaceless word = list_all (λ byte. not (is_space byte)) word
+
+-- the same of each byte
+no_spaces : (word : List ℕ) → spaceless word ≡ true → All (λ byte. is_space byte ≡ false) word
+no_spaces word h k d within = not-true _ (AllPass-from_list_all (λ byte. not (is_space byte)) word h k d within)
+
+-- the words of words that were joined, none of which has a space
+pub words_joined : (word : List ℕ) (others : List (List ℕ)) → list_all spaceless (word ∷ others) ≡ true
+    → words (join_with_byte space (word ∷ others)) ≡ word ∷ others
+words_joined word [] h = slice_split_none is_space word (no_spaces word (and_parts (spaceless word) _ h).0)
+words_joined word (next ∷ others) h =
+    let parts = and_parts (spaceless word) _ h in
+    slice_split_at is_space word space (join_with_byte space (next ∷ others)) (no_spaces word parts.0) refl
+    ∙ ap (λ l. word ∷ l) (words_joined next others parts.1)
+
+-- each line has a first word
+pub some_words : (line : List ℕ) → (word : List ℕ) × (others : List (List ℕ)) × (words line ≡ word ∷ others)
+some_words line = go (words line) (omega (arith, length-slice_split is_space line))
+  where
+    go : (list : List (List ℕ)) → 0 < length list → (word : List ℕ) × (others : List (List ℕ)) × (list ≡ word ∷ others)
+    go [] h = absurd (omega arith)
+    go (word ∷ others) h = (word, others, refl)
+
+-- the text of the first part
+first_text : List Part → List ℕ
+first_text [] = []
+first_text (p ∷ parts) = p.text
+
+-- a line's first word is what stands before any space
+pub first_word : (line word : List ℕ) (others : List (List ℕ)) → words line ≡ word ∷ others → before_first is_space line ≡ word
+unfolding parts_from first_text
+first_word line word others is =
+    let first = next_part line 0 (before_first is_space line) (omega arith) refl in
+    let start = cond-true (leb 0 (length line)) (parts_of line) [] (le-leb 0 (length line) (omega arith)) in
+    ap first_text (sym first ∙ start ∙ ap (parts_from 0) is)
+
+-- digits are no spaces
+digits_spaceless : (digits : List ℕ) → all_ascii_digits digits ≡ true → spaceless digits ≡ true
+digits_spaceless [] h = refl
+digits_spaceless (byte ∷ digits) h =
+    let parts = and_parts (is_digit byte) (all_ascii_digits digits) h in
+    let other = ne_eqb byte space (λ e. omega (arith, e, leb-true 48 byte (and_parts _ _ parts.0).0)) in
+    and_from (not (is_space byte)) _ (not_from_false (is_space byte) other) (digits_spaceless digits parts.1)
+
+-- so no number's text has a space
+pub decimal_spaceless : (n : ℕ) → n < 2 ^ 64 → spaceless (decimal n) ≡ true
+decimal_spaceless n h = digits_spaceless (decimal n) (digits_of n h)
+
+-- nor do arcs with a dot before each
+later_spaceless : (arcs : List ℕ) → all_arcs arcs ≡ true → spaceless (later_arcs arcs) ≡ true
+unfolding all_arcs
+later_spaceless [] h = refl
+later_spaceless (arc ∷ arcs) h =
+    let parts = and_parts (is_arc arc) (all_arcs arcs) h in
+    list_all-append (λ byte. not (is_space byte)) (decimal arc) (later_arcs arcs)
+    ∙ and_from (spaceless (decimal arc)) _ (decimal_spaceless arc (arc_fits arc parts.0)) (later_spaceless arcs parts.1)
+
+-- nor arcs with dots between them
+dotted_spaceless : (arcs : List ℕ) → all_arcs arcs ≡ true → spaceless (dotted_text arcs) ≡ true
+unfolding dotted_text
+dotted_spaceless [] h = refl
+dotted_spaceless (arc ∷ arcs) h = later_spaceless (arc ∷ arcs) h
+
+-- what stands before an identifier's text has no space
+before_spaceless : (before : List ℕ) → (before ≡ []) ⊎ (before ≡ prefix) → spaceless before ≡ true
+unfolding prefix
+before_spaceless before h = ⊎_elim (λ e. ap spaceless e) (λ e. ap spaceless e) h
+
+-- nor has the identifier's text behind it
+pub identifier_spaceless : (before arcs : List ℕ) → (before ≡ []) ⊎ (before ≡ prefix) → is_identifier arcs ≡ true
+    → spaceless (before ++ dotted_text arcs) ≡ true
+identifier_spaceless before arcs p h =
+    list_all-append (λ byte. not (is_space byte)) before (dotted_text arcs)
+    ∙ and_from (spaceless before) _ (before_spaceless before p) (dotted_spaceless arcs (keeps arcs h).each)
+
+-- no verb has a space
+pub verb_spaceless : (verb : Verb) → spaceless (verb_text verb) ≡ true
+verb_spaceless Grant = refl
+verb_spaceless Claim = refl
+verb_spaceless Offer = refl
+verb_spaceless Accept = refl
+verb_spaceless Decline = refl
+verb_spaceless Retire = refl
+verb_spaceless Roll = refl
+
+-- each verb is told by its text
+pub verb_found : (verb : Verb) → verb_of (verb_text verb) ≡ Some verb
+verb_found Grant = refl
+verb_found Claim = refl
+verb_found Offer = refl
+verb_found Accept = refl
+verb_found Decline = refl
+verb_found Retire = refl
+verb_found Roll = refl
+
+-- and a word that is a verb is the verb's text
+pub verb_written : (word : List ℕ) (verb : Verb) → verb_of word ≡ Some verb → verb_text verb ≡ word
+verb_written word verb is = same_text (verb_text verb) word (sym (found verbs is))
+  where
+    test : Verb → Bool
+    test v = pointwise eqb (verb_text v) word
+
+    found : (list : List Verb) → find test list ≡ Some verb → test verb ≡ true
+    found [] e = absurd (none-some _ e)
+    found (v ∷ list) e = go (test v) refl (found list) e
+      where
+        go : (b : Bool) → test v ≡ b → (find test list ≡ Some verb → test verb ≡ true)
+            → cond b (Some v) (find test list) ≡ Some verb → test verb ≡ true
+        go true same others f = ap test (sym (same_Some _ _ f)) ∙ same
+        go false same others f = others f
+
+-- a number in the range of its sort has 64 bits
+pub range_fits : (sort : Sort) (number : ℕ) → in_range sort number ≡ true → number < 2 ^ 64
+range_fits sort number h =
+    ⊎_elim (λ above. absurd (both_ways (in_range sort number) (large sort number above) h)) (λ within. omega (arith, limit_room, within)) (cases_lt arc_limit number)
+
+-- it is read from its decimal text, in a field of the sort
+pub number_read : (sort : Sort) (offset number : ℕ) → in_range sort number ≡ true
+    → number_in (field sort (part offset (decimal number))) ≡ Some number
+number_read sort offset number h =
+    let fits = range_fits sort number h in
+    let some = lt-ltb 0 (length (decimal number)) (decimal_nonempty number fits) in
+    let plain = not_from_false (leading_zero (decimal number)) (unpadded_of number fits) in
+    let good : is_numeral (decimal number) ≡ true =
+    and_from (ltb 0 (length (decimal number))) _ some (and_from (all_ascii_digits (decimal number)) _ (digits_of number fits) plain) in
+    let read : numeral (decimal number) ≡ Some number = cond-true (is_numeral (decimal number)) _ None good ∙ ap Some (value_of number fits) in
+    ap (option_and_then (λ n. cond (in_range sort n) (Some n) None)) read ∙ cond-true (in_range sort number) _ None h
+
+-- and a field that is read as a number has the number's decimal text
+pub number_written : (f : Field) (number : ℕ) → number_in f ≡ Some number
+    → (in_range f.sort number ≡ true) × (f.part.text ≡ decimal number)
+number_written f number is =
+    option_and_then_some (λ n. cond (in_range f.sort n) (Some n) None) (numeral f.part.text) number is (λ n read e.
+    let inside = cond_some (in_range f.sort n) n number e in
+    let value = cond_some (is_numeral f.part.text) (decimal_value f.part.text) n read in
+    let same : decimal_value f.part.text ≡ number = value.1 ∙ inside.1 in
+    let ranged : in_range f.sort number ≡ true = ap (in_range f.sort) (sym inside.1) ∙ inside.0 in
+    let some = and_parts (ltb 0 (length f.part.text)) _ value.0 in
+    let digits = and_parts (all_ascii_digits f.part.text) _ some.1 in
+    let fits : decimal_value f.part.text < 2 ^ 64 = omega (arith, same, range_fits f.sort number ranged) in
+    let text = written_again f.part.text digits.0 (ltb-true 0 (length f.part.text) some.0) (not-true _ digits.1) fits in
+    (ranged, sym text ∙ ap decimal same))

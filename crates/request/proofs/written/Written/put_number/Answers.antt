@@ -1,0 +1,9 @@
+use Rattle.std.proofs.Common.{◌∷◌, [], decimal, refl}
+use Rattle.request.proofs.Putting.{both, wrote}
+use Rattle.request.proofs.written.Written.put_number.Goals as goal
+
+pub returns : goal.returns
+returns c =
+    let front = decimal c.args.number in
+    let one = wrote front c.args.self.now.length c.args.page.now _ c.in_ok-self.ensures.after _ c.in_ok-self.ensures.value in
+    both front (c.args.end ∷ []) c.args.self.now.length c.args.page.now _ _ _ _ _ _ refl one c.put_bytes.ensures

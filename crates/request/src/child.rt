@@ -1,0 +1,29 @@
+// What a roll shows of a child.
+ghost use Rattle.std.specs.Prelude.{◌≡◌};
+ghost use Rattle.request.specs.Answers.{kind_word};
+
+use book::Kind;
+use oid::Arc;
+
+// A child of the roll's authority: its arc and kind, and for authorities, who holds it, with which quota.
+#[derive(Clone, Copy, PartialEq, Eq, Debug)]
+pub struct Child {
+    pub arc: Arc,
+    pub kind: Kind,
+    pub holder: u32,
+    pub quota: u32,
+}
+
+// The word for a kind.
+pub(crate) fn kind_word(kind: Kind) -> &'static [u8]
+    ensures { result.now ≡ kind_word kind }
+{
+    match kind {
+        Kind::Panel => b"panel",
+        Kind::Retired => b"retired",
+        Kind::Offered => b"offered",
+        Kind::InHand => b"inhand",
+        Kind::Open => b"open",
+        Kind::Declined => b"declined",
+    }
+}
