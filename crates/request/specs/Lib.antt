@@ -8,4 +8,5 @@ pub mod Lines
 pub mod Answers
 pub mod Written
 pub mod Fitting
+pub mod ReadBack
 pub mod Parts
