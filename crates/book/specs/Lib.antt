@@ -7,6 +7,7 @@ pub mod Calls
 pub mod Rulings
 pub mod Questions
 pub mod Refusals
+pub mod Words
 pub mod Ranges
 pub mod Founding
 pub mod Runs

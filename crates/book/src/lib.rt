@@ -8,6 +8,7 @@ pub mod kind;
 pub mod laws;
 pub mod ranges;
 pub mod refusal;
+pub mod words;
 
 pub use event::Event;
 pub use founding::FoundingRefusal;

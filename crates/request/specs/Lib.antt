@@ -1,5 +1,6 @@
 pub mod Limits
 pub mod Refusals
+pub mod Words
 pub mod Verbs
 pub mod Fields
 pub mod Reading

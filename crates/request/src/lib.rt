@@ -13,6 +13,7 @@ pub mod refusal;
 pub mod request;
 mod roll;
 mod verb;
+pub mod words;
 pub mod written;
 
 pub use child::Child;

@@ -1,0 +1,13 @@
+// Reads request lines, one a line of standard input, and says what each asks for, or what is wrong with its text and where. No register
+// is asked.
+#![tactic(auto)]
+
+mod found;
+mod request_lines;
+
+use request_lines::answer_lines;
+
+fn main(rt: HostRuntime) -> anyhow::Result<()> {
+    answer_lines(rt.alloc(), &mut rt.stdin(), rt.stdout())?;
+    Ok(())
+}
