@@ -60,7 +60,7 @@ by_book ArcTaken = omega arith
 by_book BookFull = omega arith
 by_book NotInHand = omega arith
 
-two_digits : (refusal : Refusal) → number_of refusal < 100
+pub two_digits : (refusal : Refusal) → number_of refusal < 100
 two_digits (Line LineLength) = omega arith
 two_digits (Line UnknownVerb) = omega arith
 two_digits (Line WrongFields) = omega arith

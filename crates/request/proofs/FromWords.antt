@@ -21,7 +21,7 @@ use Rattle.request.specs.declared.verb.Verb.{Verb}
 use Rattle.request.proofs.Asking.{all_read}
 use Rattle.request.proofs.Forms.{field, first_two}
 use Rattle.request.proofs.Walking.{part}
-use Rattle.request.proofs.Spelled.{spaceless, words_joined, first_word, decimal_spaceless, identifier_spaceless, verb_spaceless, verb_found, range_fits, number_read}
+use Rattle.request.proofs.Spelled.{visible, words_joined, first_word, decimal_visible, identifier_visible, verb_visible, verb_found, range_fits, number_read}
 use Rattle.request.proofs.Wording.{InRanges, none, one_more, words_with, reading_with, LineWith, front_long}
 
 -- Parts that are fields as a form wants them, all of them number fields, and read as these numbers.
@@ -87,11 +87,11 @@ identifier_some before arcs h = omega (arith, length-append before (dotted_text 
     go [] e = absurd (both_ways false refl e)
     go (byte ∷ text) e = omega arith
 
--- no number's text has a space
-all_spaceless : (form : List Sort) (numbers : List ℕ) → InRanges form numbers → list_all spaceless (map decimal numbers) ≡ true
-all_spaceless _ _ none = refl
-all_spaceless _ _ (one_more {sort} {form} {number} {numbers} r more) =
-    and_from (spaceless (decimal number)) _ (decimal_spaceless number (range_fits sort number r)) (all_spaceless form numbers more)
+-- each number's text is visible
+all_visible : (form : List Sort) (numbers : List ℕ) → InRanges form numbers → list_all visible (map decimal numbers) ≡ true
+all_visible _ _ none = refl
+all_visible _ _ (one_more {sort} {form} {number} {numbers} r more) =
+    and_from (visible (decimal number)) _ (decimal_visible number (range_fits sort number r)) (all_visible form numbers more)
 
 -- a line that is written so
 module _ (line : List ℕ) (verb : Verb) (holder : ℕ) (before arcs numbers : List ℕ) (w : LineWith line verb holder before arcs numbers) where
@@ -105,9 +105,9 @@ module _ (line : List ℕ) (verb : Verb) (holder : ℕ) (before arcs numbers : L
   words_are =
       ap words w.written
       ∙ words_joined (verb_text verb) (decimal holder ∷ text ∷ map decimal numbers)
-      (and_from (spaceless (verb_text verb)) _ (verb_spaceless verb)
-      (and_from (spaceless (decimal holder)) _ (decimal_spaceless holder (range_fits a_holder holder w.holds))
-      (and_from (spaceless text) _ (identifier_spaceless before arcs w.prefixed w.named) (all_spaceless (drop 2 (form_of verb)) numbers w.ranged))))
+      (and_from (visible (verb_text verb)) _ (verb_visible verb)
+      (and_from (visible (decimal holder)) _ (decimal_visible holder (range_fits a_holder holder w.holds))
+      (and_from (visible text) _ (identifier_visible before arcs w.prefixed w.named) (all_visible (drop 2 (form_of verb)) numbers w.ranged))))
 
   -- the verb is the first of them
   verb_is : verb_in line ≡ Some verb

@@ -10,3 +10,8 @@ pub mod FromWords
 pub mod ToWords
 pub mod Asked
 pub mod Unprefixed
+pub mod Lined
+pub mod Rolls
+pub mod ReadBack
+pub mod Children
+pub mod Placing

@@ -1,5 +1,5 @@
--- Words as they are written: none has a space, and each number and each identifier is read from its text alone.
-use Rattle.std.proofs.Common.{◌≡◌, ℕ, ◌^◌, ◌<◌, ◌⊎◌, Bool, true, false, cond, not, leb, ltb, eqb, List, [], ◌∷◌, ◌++◌, length, find, Some, None, decimal, option_and_then, refl, sym, ap, ◌∙◌, ⊎_elim, arith}
+-- Words as they are written: none has a space or a line feed, and each number and each identifier is read from its text alone.
+use Rattle.std.proofs.Common.{◌≡◌, ℕ, ◌^◌, ◌<◌, ◌⊎◌, Bool, true, false, cond, leb, ltb, eqb, List, [], ◌∷◌, ◌++◌, length, find, Some, None, decimal, option_and_then, refl, sym, ap, ◌∙◌, ⊎_elim, arith}
 use Rattle.std.specs.Cmp.Lexicographic.{pointwise, same_text}
 use Rattle.std.specs.List.{All, before_first, join_with_byte, list_all}
 use Rattle.std.specs.Str.{all_ascii_digits}
@@ -27,20 +27,21 @@ use Rattle.request.proofs.Forms.{field}
 use Rattle.request.proofs.Numbers.{large}
 use Rattle.request.proofs.Walking.{part, next_part}
 
--- no space is among the bytes
-abbrev pub spaceless : List ℕ → Bool
-spaceless word = list_all (λ byte. not (is_space byte)) word
+-- each byte is larger than a space, so that no space and no line feed is among them
+abbrev pub visible : List ℕ → Bool
+visible word = list_all (λ byte. ltb space byte) word
 
--- the same of each byte
-no_spaces : (word : List ℕ) → spaceless word ≡ true → All (λ byte. is_space byte ≡ false) word
-no_spaces word h k d within = not-true _ (AllPass-from_list_all (λ byte. not (is_space byte)) word h k d within)
+-- there is no space
+pub no_spaces : (word : List ℕ) → visible word ≡ true → All (λ byte. is_space byte ≡ false) word
+no_spaces word h k d within =
+    ne_eqb _ space (λ e. omega (arith, e, ltb-true space _ (AllPass-from_list_all (λ byte. ltb space byte) word h k d within)))
 
--- the words of words that were joined, none of which has a space
-pub words_joined : (word : List ℕ) (others : List (List ℕ)) → list_all spaceless (word ∷ others) ≡ true
+-- the words of words that were joined
+pub words_joined : (word : List ℕ) (others : List (List ℕ)) → list_all visible (word ∷ others) ≡ true
     → words (join_with_byte space (word ∷ others)) ≡ word ∷ others
-words_joined word [] h = slice_split_none is_space word (no_spaces word (and_parts (spaceless word) _ h).0)
+words_joined word [] h = slice_split_none is_space word (no_spaces word (and_parts (visible word) _ h).0)
 words_joined word (next ∷ others) h =
-    let parts = and_parts (spaceless word) _ h in
+    let parts = and_parts (visible word) _ h in
     slice_split_at is_space word space (join_with_byte space (next ∷ others)) (no_spaces word parts.0) refl
     ∙ ap (λ l. word ∷ l) (words_joined next others parts.1)
 
@@ -65,54 +66,54 @@ first_word line word others is =
     let start = cond-true (leb 0 (length line)) (parts_of line) [] (le-leb 0 (length line) (omega arith)) in
     ap first_text (sym first ∙ start ∙ ap (parts_from 0) is)
 
--- digits are no spaces
-digits_spaceless : (digits : List ℕ) → all_ascii_digits digits ≡ true → spaceless digits ≡ true
-digits_spaceless [] h = refl
-digits_spaceless (byte ∷ digits) h =
+-- digits are visible
+digits_visible : (digits : List ℕ) → all_ascii_digits digits ≡ true → visible digits ≡ true
+digits_visible [] h = refl
+digits_visible (byte ∷ digits) h =
     let parts = and_parts (is_digit byte) (all_ascii_digits digits) h in
-    let other = ne_eqb byte space (λ e. omega (arith, e, leb-true 48 byte (and_parts _ _ parts.0).0)) in
-    and_from (not (is_space byte)) _ (not_from_false (is_space byte) other) (digits_spaceless digits parts.1)
+    let large = lt-ltb space byte (omega (arith, leb-true 48 byte (and_parts _ _ parts.0).0)) in
+    and_from (ltb space byte) _ large (digits_visible digits parts.1)
 
--- so no number's text has a space
-pub decimal_spaceless : (n : ℕ) → n < 2 ^ 64 → spaceless (decimal n) ≡ true
-decimal_spaceless n h = digits_spaceless (decimal n) (digits_of n h)
+-- so each number's text is
+pub decimal_visible : (n : ℕ) → n < 2 ^ 64 → visible (decimal n) ≡ true
+decimal_visible n h = digits_visible (decimal n) (digits_of n h)
 
--- nor do arcs with a dot before each
-later_spaceless : (arcs : List ℕ) → all_arcs arcs ≡ true → spaceless (later_arcs arcs) ≡ true
+-- so are arcs with a dot before each
+later_visible : (arcs : List ℕ) → all_arcs arcs ≡ true → visible (later_arcs arcs) ≡ true
 unfolding all_arcs
-later_spaceless [] h = refl
-later_spaceless (arc ∷ arcs) h =
+later_visible [] h = refl
+later_visible (arc ∷ arcs) h =
     let parts = and_parts (is_arc arc) (all_arcs arcs) h in
-    list_all-append (λ byte. not (is_space byte)) (decimal arc) (later_arcs arcs)
-    ∙ and_from (spaceless (decimal arc)) _ (decimal_spaceless arc (arc_fits arc parts.0)) (later_spaceless arcs parts.1)
+    list_all-append (λ byte. ltb space byte) (decimal arc) (later_arcs arcs)
+    ∙ and_from (visible (decimal arc)) _ (decimal_visible arc (arc_fits arc parts.0)) (later_visible arcs parts.1)
 
--- nor arcs with dots between them
-dotted_spaceless : (arcs : List ℕ) → all_arcs arcs ≡ true → spaceless (dotted_text arcs) ≡ true
+-- and arcs with dots between them
+dotted_visible : (arcs : List ℕ) → all_arcs arcs ≡ true → visible (dotted_text arcs) ≡ true
 unfolding dotted_text
-dotted_spaceless [] h = refl
-dotted_spaceless (arc ∷ arcs) h = later_spaceless (arc ∷ arcs) h
+dotted_visible [] h = refl
+dotted_visible (arc ∷ arcs) h = later_visible (arc ∷ arcs) h
 
--- what stands before an identifier's text has no space
-before_spaceless : (before : List ℕ) → (before ≡ []) ⊎ (before ≡ prefix) → spaceless before ≡ true
+-- what stands before an identifier's text is visible
+before_visible : (before : List ℕ) → (before ≡ []) ⊎ (before ≡ prefix) → visible before ≡ true
 unfolding prefix
-before_spaceless before h = ⊎_elim (λ e. ap spaceless e) (λ e. ap spaceless e) h
+before_visible before h = ⊎_elim (λ e. ap visible e) (λ e. ap visible e) h
 
--- nor has the identifier's text behind it
-pub identifier_spaceless : (before arcs : List ℕ) → (before ≡ []) ⊎ (before ≡ prefix) → is_identifier arcs ≡ true
-    → spaceless (before ++ dotted_text arcs) ≡ true
-identifier_spaceless before arcs p h =
-    list_all-append (λ byte. not (is_space byte)) before (dotted_text arcs)
-    ∙ and_from (spaceless before) _ (before_spaceless before p) (dotted_spaceless arcs (keeps arcs h).each)
+-- and so is the identifier's text behind it
+pub identifier_visible : (before arcs : List ℕ) → (before ≡ []) ⊎ (before ≡ prefix) → is_identifier arcs ≡ true
+    → visible (before ++ dotted_text arcs) ≡ true
+identifier_visible before arcs p h =
+    list_all-append (λ byte. ltb space byte) before (dotted_text arcs)
+    ∙ and_from (visible before) _ (before_visible before p) (dotted_visible arcs (keeps arcs h).each)
 
--- no verb has a space
-pub verb_spaceless : (verb : Verb) → spaceless (verb_text verb) ≡ true
-verb_spaceless Grant = refl
-verb_spaceless Claim = refl
-verb_spaceless Offer = refl
-verb_spaceless Accept = refl
-verb_spaceless Decline = refl
-verb_spaceless Retire = refl
-verb_spaceless Roll = refl
+-- each verb is
+pub verb_visible : (verb : Verb) → visible (verb_text verb) ≡ true
+verb_visible Grant = refl
+verb_visible Claim = refl
+verb_visible Offer = refl
+verb_visible Accept = refl
+verb_visible Decline = refl
+verb_visible Retire = refl
+verb_visible Roll = refl
 
 -- each verb is told by its text
 pub verb_found : (verb : Verb) → verb_of (verb_text verb) ≡ Some verb

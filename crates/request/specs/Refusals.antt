@@ -4,8 +4,8 @@ use Rattle.oid.specs.Refusals as oid
 use Rattle.book.specs.Refusals as book
 use Rattle.request.specs.declared.refusal.LineRefusal.{LineRefusal}
 use Rattle.request.specs.declared.refusal.LineRefusal.TheVariants.{LineLength, UnknownVerb, WrongFields, NotANumber}
-use Rattle.request.specs.declared.refusal.PageRefusal.{PageRefusal}
-use Rattle.request.specs.declared.refusal.PageRefusal.TheVariants.{TooShort}
+use Rattle.request.specs.declared.page.PageRefusal.{PageRefusal}
+use Rattle.request.specs.declared.page.PageRefusal.TheVariants.{TooShort}
 use Rattle.request.specs.declared.refusal.Refusal.{Refusal}
 use Rattle.request.specs.declared.refusal.Refusal.TheVariants.{Line, Identifier, Book}
 use Rattle.request.specs.declared.refusal.Fault.{Fault}

@@ -1,26 +1,28 @@
 // The first line of an answer.
-ghost use Rattle.std.specs.Prelude.{◌≡◌, ◌<◌, ◌^◌, Ok, Err, cond, length};
+ghost use Rattle.std.specs.Prelude.{◌≡◌, ◌<◌, ◌^◌, Ok, Err, OnOk, cond, length};
 ghost use Rattle.std.specs.Result.{ForErr};
 ghost use Rattle.oid.specs.Meaning.{arcs_of};
 ghost use Rattle.oid.specs.Pages.{at_front};
 ghost use Rattle.request.specs.Answers.{ok_line, no_line, first_line};
 ghost use Rattle.request.specs.Limits.{has_room};
+ghost use Rattle.request.specs.ReadBack.{ReadsBack};
 ghost use Rattle.request.specs.Written.{Puts};
-ghost use Rattle.request.specs.declared.refusal.PageRefusal.TheVariants.{TooShort};
+ghost use Rattle.request.specs.declared.page.PageRefusal.TheVariants.{TooShort};
 
-use crate::limits::has_room;
-use crate::refusal::{Fault, PageRefusal};
+use crate::page::{PageRefusal, has_room};
+use crate::refusal::Fault;
 use crate::written::Written;
 use oid::{Identifier, Refusal};
 
 // Writes an answer's first line at the front of a page: `ok` and an identifier, or `no` and a fault. It answers the line's length, and
-// leaves the rest of the page as it was. A page that is too short for answers is untouched.
+// leaves the rest of the page as it was; the answer can be read back from the page. A page that is too short for answers is untouched.
 pub fn write_answer(
     answer: Result<Identifier, Fault>,
     page: &mut [u8],
 ) -> Result<usize, PageRefusal>
     ensures value { result ≡ cond (has_room (length page.old)) (Ok (length (first_line answer))) (Err TooShort) }
     ensures after { page.new ≡ cond (has_room (length page.old)) (at_front (first_line answer) page.old) page.old }
+    ensures reads_back { OnOk result (ReadsBack answer page.new) }
 {
     if !has_room(page) {
         return Err(PageRefusal::TooShort);

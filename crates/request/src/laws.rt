@@ -1,7 +1,29 @@
 // Laws of request lines, each as the contract of a function.
+ghost use Rattle.request.specs.Fitting.{LinesFit};
 ghost use Rattle.request.specs.Lines.{EqualButPrefix};
+ghost use Rattle.request.specs.ReadBack.{IdentifiersReadBack, ChildLinesApart, RollsFit};
 
 // Two lines that are read as one call are equal but for their identifiers' prefix.
 pub fn equal_but_prefix()
     ensures { EqualButPrefix }
+{}
+
+// From what is written for a line, of whatever answer, can be read back the identifier that the answer has; and none if it has none.
+pub fn identifiers_read_back()
+    ensures { IdentifiersReadBack }
+{}
+
+// Two children whose lines are equal are shown alike, and no line of a child is one that ends a roll.
+pub fn child_lines_apart()
+    ensures { ChildLinesApart }
+{}
+
+// On the least page that is answered on, each first line fits with 16 bytes behind it; and in those fits each line that ends a roll.
+pub fn lines_fit()
+    ensures { LinesFit }
+{}
+
+// A roll fits, with the line that ends it, on each page that is long enough for answers.
+pub fn rolls_fit()
+    ensures { RollsFit }
 {}

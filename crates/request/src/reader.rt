@@ -1,10 +1,12 @@
 // The reader of request lines.
 ghost use Rattle.std.specs.Prelude.{◌≡◌, ◌+◌, ◌<◌, ◌^◌, length};
-ghost use Rattle.std.specs.Result.{result_map_both};
+ghost use Rattle.std.specs.Option.{option_and_then};
+ghost use Rattle.std.specs.Result.{result_ok, result_map_both};
 ghost use Rattle.oid.specs.Meaning.{arcs_of};
+ghost use Rattle.book.specs.Calls.{place_of};
 ghost use Rattle.request.specs.Lines.{ReadsExactly};
 ghost use Rattle.request.specs.Parts.{part_of};
-ghost use Rattle.request.specs.Reading.{identifier_in, call_by, read_line};
+ghost use Rattle.request.specs.Reading.{identifier_in, call_by, read_line, place_of_line};
 ghost use Rattle.request.specs.Requests.{call_of_request, reading_of};
 
 use crate::fields::Fields;
@@ -21,6 +23,7 @@ use oid::Identifier;
 pub fn read(line: &[u8]) -> Result<Reading, Fault>
     ensures value { result_map_both reading_of (λ fault. fault) result ≡ read_line line.now }
     ensures exactly { ReadsExactly line.now }
+    ensures place { place_of_line line.now ≡ option_and_then (λ reading. place_of (call_of_request reading.request)) (result_ok result) }
 {
     if !is_line(line) {
         return Err(LineRefusal::LineLength.at(0));

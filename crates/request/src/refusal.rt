@@ -1,13 +1,7 @@
 // Why a line is answered with a no, and where in it.
 ghost use Rattle.std.specs.Prelude.{◌≡◌};
 ghost use Rattle.request.specs.declared.refusal.Refusal.TheVariants.{Line};
-ghost use Rattle.request.specs.Refusals.{page_number, line_number, number_of, letter_of, fault_at};
-
-// The refusal of a page. The number is all that is told.
-#[derive(Clone, Copy, PartialEq, Eq, Debug)]
-pub enum PageRefusal {
-    TooShort = 9,
-}
+ghost use Rattle.request.specs.Refusals.{line_number, number_of, letter_of, fault_at};
 
 // The refusals of a line's text, but for its identifier, in the order of the questions.
 #[derive(Clone, Copy, PartialEq, Eq, Debug)]
@@ -31,15 +25,6 @@ pub enum Refusal {
 pub struct Fault {
     pub refusal: Refusal,
     pub offset: usize,
-}
-
-impl PageRefusal {
-    // The number that the refusal is told by.
-    pub fn number(self) -> u8
-        ensures { result ≡ page_number self }
-    {
-        self as u8
-    }
 }
 
 impl LineRefusal {

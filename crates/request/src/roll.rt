@@ -5,7 +5,7 @@ ghost use Rattle.request.specs.Limits.{least_rest};
 ghost use Rattle.request.specs.Written.{Puts, PutsLine};
 
 use crate::child::{Child, kind_word};
-use crate::limits::LEAST_REST;
+use crate::page::LEAST_REST;
 use crate::written::Written;
 use oid::{Arc, Refusal};
 
