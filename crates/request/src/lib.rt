@@ -13,6 +13,8 @@ pub mod reader;
 pub mod refusal;
 pub mod request;
 mod roll;
+#[cfg(test)]
+mod tests;
 mod verb;
 pub mod words;
 pub mod written;
