@@ -15,3 +15,4 @@ pub mod Rolls
 pub mod ReadBack
 pub mod Children
 pub mod Placing
+pub mod Worked

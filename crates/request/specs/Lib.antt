@@ -10,4 +10,5 @@ pub mod Answers
 pub mod Written
 pub mod Fitting
 pub mod ReadBack
+pub mod Example
 pub mod Parts

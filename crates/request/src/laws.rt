@@ -1,4 +1,5 @@
 // Laws of request lines, each as the contract of a function.
+ghost use Rattle.request.specs.Example.{WorkedLines};
 ghost use Rattle.request.specs.Fitting.{LinesFit};
 ghost use Rattle.request.specs.Lines.{EqualButPrefix};
 ghost use Rattle.request.specs.ReadBack.{IdentifiersReadBack, ChildLinesApart, RollsFit};
@@ -26,4 +27,9 @@ pub fn lines_fit()
 // A roll fits, with the line that ends it, on each page that is long enough for answers.
 pub fn rolls_fit()
     ensures { RollsFit }
+{}
+
+// The lines of a worked example make its calls, and what is written for them is as the rules say; and so it is at the edges.
+pub fn worked_lines()
+    ensures { WorkedLines }
 {}

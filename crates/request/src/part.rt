@@ -1,5 +1,6 @@
 // The parts of a line that its spaces leave.
-ghost use Rattle.std.specs.Prelude.{◌≡◌, ◌∷◌, [], length, nat_eq, MatchOption};
+ghost use Rattle.std.specs.Prelude.{◌≡◌, length, nat_eq};
+ghost use Rattle.std.specs.Iterator.{YieldsFirstBy};
 ghost use Rattle.std.specs.Option.{option_map};
 ghost use Rattle.request.specs.Parts.{part_of, parts_left, FillsNext};
 
@@ -25,7 +26,7 @@ pub(crate) struct Parts<'a> {
 impl<'a> Parts<'a> {
     // The next part, if one is left.
     pub(crate) fn next_part(&mut self) -> Option<Part<'a>>
-        ensures { MatchOption result ((parts_left self.old ≡ []) × (parts_left self.new ≡ [])) (λ part. parts_left self.old ≡ part_of part ∷ parts_left self.new) }
+        ensures { YieldsFirstBy part_of parts_left self.old result self.new }
     {
         let text = first_piece(self.line.get(self.place..)?, SPACE);
         let offset = self.place;
