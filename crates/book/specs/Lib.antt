@@ -7,9 +7,9 @@ pub mod Calls
 pub mod Rulings
 pub mod Questions
 pub mod Refusals
-pub mod Words
 pub mod Ranges
 pub mod Founding
+pub mod Words
 pub mod Runs
 pub mod Given
 pub mod Law

@@ -1,5 +1,5 @@
 // The book of a register as definitions: entries, calls and their questions, runs, and laws of these, above all the one over every run.
-// And the words that code shares of it: kinds, events, refusals, the ranges of holders and quotas.
+// And the types and numbers of it that code shares: kinds, events, refusals, the ranges of holders and quotas.
 #![tactic(auto)]
 
 pub mod event;

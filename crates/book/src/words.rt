@@ -1,7 +1,9 @@
-// Refusals of calls in words.
+// Refusals of calls and of foundings in words.
 ghost use Rattle.std.specs.Prelude.{Some};
-ghost use Rattle.book.specs.Words.{words_of};
+ghost use Rattle.book.specs.Words.{words_of, founding_words};
 
+use crate::founding::FoundingRefusal;
+use crate::ranges::{FIRST_HOLDER, LAST_HOLDER, MOST_QUOTA};
 use crate::refusal::Refusal;
 use oid::identifier::MOST_ARCS;
 use std::error::Error;
@@ -39,3 +41,19 @@ impl fmt::Display for Refusal {
 }
 
 impl Error for Refusal {}
+
+impl fmt::Display for FoundingRefusal {
+    ghost output = { λ refusal. Some (founding_words refusal) };
+
+    fn fmt<W: fmt::Write>(&self, f: &mut fmt::Formatter<W>) -> fmt::Result {
+        match self {
+            FoundingRefusal::QuotaTooLarge => write!(f, "the quota is above {MOST_QUOTA}"),
+            FoundingRefusal::NoHolder => write!(
+                f,
+                "the holder is not from {FIRST_HOLDER} to {LAST_HOLDER}"
+            ),
+        }
+    }
+}
+
+impl Error for FoundingRefusal {}

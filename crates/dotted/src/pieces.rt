@@ -1,4 +1,4 @@
-// The numbers of dotted text, piece by piece.
+// Pieces between separators, and the numbers of dotted text, piece by piece.
 ghost use Rattle.std.specs.Prelude.{◌≡◌, ◌≤◌, ◌==◌, length, drop};
 ghost use Rattle.std.specs.Iterator.{YieldsFirst, item_count};
 ghost use Rattle.std.specs.List.{before_first};

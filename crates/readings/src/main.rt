@@ -1,5 +1,5 @@
 // Reads request lines, one a line of standard input, and says what each asks for, or what is wrong with its text and where. No register
-// is asked.
+// is asked, and what it says of a line that is read is not what a register answers.
 #![tactic(auto)]
 
 mod found;

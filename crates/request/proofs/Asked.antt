@@ -1,12 +1,13 @@
 -- A line is read as a call exactly when it asks for it.
-use Rattle.std.proofs.Common.{◌≡◌, ℕ, List, ◌∷◌, ◌++◌, length, Ok, sym, ap, ◌∙◌, subst}
+use Rattle.std.proofs.Common.{◌≡◌, ℕ, List, ◌∷◌, ◌++◌, length, Ok, sym, ap, ◌∙◌, subst, Result}
 use Rattle.std.specs.List.{join_with_byte}
 use Rattle.dotted.specs.Writing.{dotted_text}
 use Rattle.request.specs.Fields.{space}
 use Rattle.request.specs.Lines.{identifier_of, line_of, front_of, Asks, ReadsExactly}
-use Rattle.request.specs.Reading.{Reading, call_by}
+use Rattle.request.specs.Reading.{Reading, call_by, read_line}
 use Rattle.request.specs.declared.verb.Verb.{Verb}
 use Rattle.request.proofs.Wording.{words_with, reading_with, LineWith, words_made, identifier_made, call_made, made, front_made}
+use Rattle.request.specs.declared.refusal.Fault.{Fault}
 use Rattle.request.proofs.FromWords.{written_read}
 use Rattle.request.proofs.ToWords.{Found, read_written}
 
@@ -16,7 +17,7 @@ written_asks : (line : List ℕ) (verb : Verb) (holder : ℕ) (before arcs numbe
 written_asks line verb holder before arcs numbers w = record {
   sized = w.sized;
   call = call_made verb holder arcs numbers w.holds w.named w.ranged;
-  before = before;
+  prefix_or_none = before;
   prefixed = w.prefixed;
   written = w.written
       ∙ ap (λ l. join_with_byte space (words_with verb holder (before ++ dotted_text l) numbers)) (sym named)
@@ -32,11 +33,11 @@ pub asks_written : (line : List ℕ) (reading : Reading) → Asks line reading �
 asks_written line reading a =
     let m = made reading.call a.call in
     let arcs = identifier_of reading.call in
-    let text = a.before ++ dotted_text arcs in
+    let text = a.prefix_or_none ++ dotted_text arcs in
     record {
       verb = m.verb;
       holder = m.holder;
-      before = a.before;
+      before = a.prefix_or_none;
       arcs = arcs;
       numbers = m.numbers;
       is_written = record {
@@ -54,12 +55,12 @@ asks_written line reading a =
     }
 
 -- so it is read exactly when it asks
-pub reads_exactly : (line : List ℕ) → ReadsExactly line
-reads_exactly line reading = (
+pub reads_exactly : (line : List ℕ) (answer : Result Reading Fault) → answer ≡ read_line line → ReadsExactly line answer
+reads_exactly line answer value reading = (
   λ is.
-      let f = read_written line reading is in
+      let f = read_written line reading (sym value ∙ is) in
       subst (Asks line) (sym f.same) (written_asks line f.verb f.holder f.before f.arcs f.numbers f.is_written),
   λ asks.
       let f = asks_written line reading asks in
-      written_read line f.verb f.holder f.before f.arcs f.numbers f.is_written ∙ ap Ok (sym f.same),
+      value ∙ written_read line f.verb f.holder f.before f.arcs f.numbers f.is_written ∙ ap Ok (sym f.same),
 )

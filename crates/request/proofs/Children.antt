@@ -1,22 +1,19 @@
 -- What a roll shows of a child can be told from its line, which is no line that ends a roll.
-use Rattle.std.proofs.Common.{◌≡◌, ℕ, ◌^◌, ◌<◌, Bool, true, false, cond, leb, eqb, List, [], ◌∷◌, ◌++◌, length, find, Some, None, Option, decimal, refl, sym, ap, ◌∙◌, append-nil, arith}
+use Rattle.std.proofs.Common.{◌≡◌, ℕ, ◌^◌, ◌<◌, Bool, true, false, cond, eqb, List, [], ◌∷◌, ◌++◌, length, find, Some, None, Option, decimal, refl, sym, ap, ◌∙◌, append-nil, arith}
 use Rattle.std.specs.Cmp.Lexicographic.{pointwise}
 use Rattle.std.specs.List.{list_all}
 use Rattle.std.specs.Str.{all_ascii_digits}
-use Rattle.std.proofs.lemmas.Bool.{and_parts, and_from, both_ways, cond-true, leb-true}
+use Rattle.std.proofs.lemmas.Bool.{and_parts, and_from, both_ways, cond-true}
 use Rattle.std.proofs.lemmas.Fmt.{decimal_injective, decimal_nonempty}
 use Rattle.std.proofs.lemmas.Option.{same_Some}
-use Rattle.oid.specs.Arcs.{is_arc}
 use Rattle.dotted.specs.Form.{is_digit, begins_with_digit}
 use Rattle.dotted.proofs.Spelling.{digits_of}
-use Rattle.dotted.proofs.Texts.{arc_fits}
 use Rattle.book.specs.Kinds.{is_authority}
-use Rattle.book.specs.Ranges.{first_holder, last_holder, most_quota, is_holder, is_quota}
 use Rattle.book.specs.declared.kind.Kind.{Kind}
 use Rattle.book.specs.declared.kind.Kind.TheVariants.{Panel, Retired, Offered, InHand, Open, Declined}
 use Rattle.request.specs.Answers.{kind_word, shown_words, child_line, last_line, text_line}
 use Rattle.request.specs.Fields.{space}
-use Rattle.request.specs.ReadBack.{first_words, is_child, ShownAlike, ChildLinesApart}
+use Rattle.request.specs.ReadBack.{first_words, HasNumbers, ShownAlike, ChildLinesApart}
 use Rattle.request.specs.declared.child.Child.{Child}
 use Rattle.request.proofs.Lined.{lined}
 use Rattle.request.proofs.Spelled.{visible, decimal_visible}
@@ -46,24 +43,8 @@ kind_found Declined = refl
 same_kind : (one other : Kind) → kind_word one ≡ kind_word other → one ≡ other
 same_kind one other is = same_Some _ _ (sym (kind_found one) ∙ ap kind_of is ∙ kind_found other)
 
--- The numbers of a child have 64 bits.
-record Fits (child : Child) : Type 0 where
-  arc : child.arc < 2 ^ 64
-  holder : child.holder < 2 ^ 64
-  quota : child.quota < 2 ^ 64
-
-fits : (child : Child) → is_child child ≡ true → Fits child
-fits child h =
-    let parts = and_parts (is_arc child.arc) _ h in
-    let more = and_parts (is_holder child.holder) (is_quota child.quota) parts.1 in
-    record {
-      arc = arc_fits child.arc parts.0;
-      holder = omega (arith, leb-true child.holder last_holder (and_parts (leb first_holder child.holder) _ more.0).1);
-      quota = omega (arith, leb-true child.quota most_quota more.1);
-    }
-
 -- the words of a child's line
-child_words : (child : Child) → Fits child → first_words (child_line child) ≡ decimal child.arc ∷ shown_words child
+child_words : (child : Child) → HasNumbers child → first_words (child_line child) ≡ decimal child.arc ∷ shown_words child
 child_words child f =
     ap first_words (sym (append-nil (child_line child)))
     ∙ lined (decimal child.arc) (shown_words child) []
@@ -78,10 +59,10 @@ child_words child f =
     numbers false = refl
 
 -- what is shown of an authority behind its kind
-abbrev numbers_of : Child → List (List ℕ)
-numbers_of child = cond (is_authority child.kind) (decimal child.holder ∷ decimal child.quota ∷ []) []
+abbrev number_fields_of : Child → List (List ℕ)
+number_fields_of child = cond (is_authority child.kind) (decimal child.holder ∷ decimal child.quota ∷ []) []
 
-shown : (child : Child) → is_authority child.kind ≡ true → numbers_of child ≡ decimal child.holder ∷ decimal child.quota ∷ []
+shown : (child : Child) → is_authority child.kind ≡ true → number_fields_of child ≡ decimal child.holder ∷ decimal child.quota ∷ []
 shown child e = cond-true (is_authority child.kind) _ _ e
 
 -- two lists that are equal have the same first word and the same others
@@ -89,7 +70,7 @@ same_first : (word other : List ℕ) (words others : List (List ℕ)) → word �
 same_first word other words others is = (cc, cc)
 
 -- children with the same words are shown alike
-alike : (one other : Child) → Fits one → Fits other → decimal one.arc ∷ shown_words one ≡ decimal other.arc ∷ shown_words other → ShownAlike one other
+alike : (one other : Child) → HasNumbers one → HasNumbers other → decimal one.arc ∷ shown_words one ≡ decimal other.arc ∷ shown_words other → ShownAlike one other
 alike one other f g is = record {
   arc = decimal_injective one.arc other.arc f.arc g.arc arcs.0;
   kind = same;
@@ -100,7 +81,7 @@ alike one other f g is = record {
     arcs : (decimal one.arc ≡ decimal other.arc) × (shown_words one ≡ shown_words other)
     arcs = same_first _ _ _ _ is
 
-    kinds : (kind_word one.kind ≡ kind_word other.kind) × (numbers_of one ≡ numbers_of other)
+    kinds : (kind_word one.kind ≡ kind_word other.kind) × (number_fields_of one ≡ number_fields_of other)
     kinds = same_first _ _ _ _ arcs.1
 
     same : one.kind ≡ other.kind
@@ -124,11 +105,8 @@ last_begins (Some arc) = refl
 
 pub child_lines_apart : ChildLinesApart
 child_lines_apart = record {
-  alike = λ one other h k is.
-      let f = fits one h in
-      let g = fits other k in
-      alike one other f g (sym (child_words one f) ∙ ap first_words is ∙ child_words other g);
+  alike = λ one other h k is. alike one other h k (sym (child_words one h) ∙ ap first_words is ∙ child_words other k);
   no_last = λ child next h is.
-      let begins = number_begins child.arc (space ∷ text_line (shown_words child)) (fits child h).arc in
+      let begins = number_begins child.arc (space ∷ text_line (shown_words child)) h.arc in
       both_ways (begins_with_digit (last_line next)) (last_begins next) (ap begins_with_digit (sym is) ∙ begins);
 }

@@ -88,4 +88,9 @@ first_fits (Err fault) page small room =
     le-leb (0 + length (no_line fault)) (length page) (omega (arith, no_fits fault (small fault refl), leb-true least_page (length page) room))
 
 pub lines_fit : LinesFit
-lines_fit = record { yes_fits = yes_fits; no_fits = no_fits; last_fits = last_fits }
+lines_fit = record {
+  yes_fits = yes_fits;
+  no_fits = no_fits;
+  last_fits = last_fits;
+  both_fit = λ arcs next h others. omega (arith, yes_fits arcs h, last_fits next others);
+}

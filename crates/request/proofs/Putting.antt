@@ -1,5 +1,5 @@
 -- Bytes put behind what is written of a page, one piece after the other.
-use Rattle.std.proofs.Common.{◌≡◌, ℕ, ◌+◌, ◌≤◌, Bool, true, false, cond, leb, List, [], ◌∷◌, ◌++◌, length, take, drop, Ok, Err, Result, refl, sym, ap, subst, ◌∙◌, append_assoc, append-nil, decimal, arith}
+use Rattle.std.proofs.Common.{◌≡◌, ℕ, ◌+◌, ◌≤◌, Bool, true, false, cond, leb, List, [], ◌∷◌, ◌++◌, length, take, drop, Ok, Err, Result, refl, sym, ap, subst, ◌∙◌, append_assoc, decimal, arith}
 use Rattle.std.specs.Result.{is_ok}
 use Rattle.std.proofs.lemmas.Bool.{leb-true, leb-false, lt-leb, both_ways}
 use Rattle.std.proofs.lemmas.List.{length-append, length-drop, length-take-le, take_at, take-take}
@@ -26,16 +26,6 @@ pub length_placed : (bytes : List ℕ) (before : ℕ) (page : List ℕ) → befo
 unfolding placed
 length_placed bytes before page h =
     omega (arith, h, length-append (take before page) (bytes ++ drop (before + length bytes) page), length-append bytes (drop (before + length bytes) page), length-take-le before page (omega (arith, h)), length-drop (before + length bytes) page)
-
--- and the bytes are behind it
-taken : (bytes : List ℕ) (before : ℕ) (page : List ℕ) → before + length bytes ≤ length page
-    → take (before + length bytes) (placed before bytes page) ≡ take before page ++ bytes
-unfolding placed
-taken bytes before page h =
-    let long : length (take before page ++ bytes) ≡ before + length bytes =
-    omega (arith, length-append (take before page) bytes, length-take-le before page (omega (arith, h))) in
-    ap (take (before + length bytes)) (sym (append_assoc (take before page) bytes (drop (before + length bytes) page)))
-    ∙ take_at (take before page ++ bytes) (drop (before + length bytes) page) (before + length bytes) long
 
 -- all of them were put
 pub put : (bytes : List ℕ) (before : ℕ) (page : List ℕ) → fits before bytes page ≡ true
@@ -119,32 +109,20 @@ module _ (word : List ℕ) (end : ℕ) (rest : List ℕ) (before : ℕ) (page : 
       subst (λ bytes. Puts bytes before page second middle page_after) joined
       (first_not (word ++ end ∷ []) rest before page first second middle page_after no_first no_second one)
 
--- The last bytes of a line were put, and it was finished; or not, and its length was restored.
-pub finished : (bytes : List ℕ) (before : ℕ) (page : List ℕ) (answer : Result (Unit {0}) Refusal) (counted after : ℕ) (page_after : List ℕ)
-    → is_ok answer ≡ true → counted ≡ after → Puts bytes before page answer after page_after → PutsLine bytes 0 before page true counted page_after
-finished bytes before page answer counted after page_after put_all same one =
-    let room = sym one.answers ∙ put_all in
-    let there = one.done room in
-    let h = leb-true (before + length bytes) (length page) room in
-    let none : before + length bytes ≡ before + length bytes + 0 = omega arith in
-    record {
-      answers = sym room ∙ ap (λ n. leb n (length page)) none;
-      counted = same ∙ there.0;
-      written = ap (λ n. take n page_after) (same ∙ there.0) ∙ ap (take (before + length bytes)) there.1 ∙ taken bytes before page h;
-      long = one.long;
-    }
-
-pub restored : (bytes : List ℕ) (before : ℕ) (page : List ℕ) (answer : Result (Unit {0}) Refusal) (told : Bool) (counted after : ℕ) (page_after : List ℕ)
-    → is_ok answer ≡ false → told ≡ false → counted ≡ before → Puts bytes before page answer after page_after
-    → PutsLine bytes 0 before page told counted page_after
-restored bytes before page answer told counted after page_after put_none said same one =
-    let none : before + length bytes ≡ before + length bytes + 0 = omega arith in
-    record {
-      answers = said ∙ sym put_none ∙ one.answers ∙ ap (λ n. leb n (length page)) none;
-      counted = same ∙ ap (λ v. cond v (before + length bytes) before) (sym said);
-      written = ap (λ n. take n page_after) same ∙ one.before_it ∙ sym (append-nil (take before page)) ∙ ap (λ v. take before page ++ cond v bytes []) (sym said);
-      long = one.long;
-    }
+-- a line all of which was put, with so many bytes left behind it, and which was finished
+module _ (bytes : List ℕ) (rest before : ℕ) (page : List ℕ) where
+  pub finished : (result : Result (Unit {0}) Refusal) (counted after : ℕ) (page_after : List ℕ)
+      → is_ok result ≡ true → counted ≡ after → leb (after + rest) (length page_after) ≡ true
+      → Puts bytes before page result after page_after → PutsLine bytes rest before page true counted page_after
+  finished result counted after page_after put_all same left one =
+      let there = one.done (sym one.answers ∙ put_all) in
+      record {
+        answers = sym ((λ k. leb (sym there.0 k + rest) (sym one.long k)) ∙ left);
+        counted = same ∙ there.0;
+        there = λ e. there.1;
+        before_it = one.before_it;
+        long = one.long;
+      }
 
 -- the number that was put, by another name
 pub renumbered : (number same end before : ℕ) (page : List ℕ) (answer : Result (Unit {0}) Refusal) (after : ℕ) (page_after : List ℕ) → number ≡ same

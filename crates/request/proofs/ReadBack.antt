@@ -11,7 +11,7 @@ use Rattle.dotted.proofs.Spelling.{value_of}
 use Rattle.dotted.proofs.Theorems.{reads_back}
 use Rattle.book.specs.Rulings.{refused, named, listed, collected}
 use Rattle.book.specs.Runs.{unread, by_call}
-use Rattle.request.specs.Answers.{ok_line, no_line, first_line, child_of, roll_lines, fault_line, place_in}
+use Rattle.request.specs.Answers.{ok_line, no_line, first_line, child_of, roll_lines, fault_line, offset_in}
 use Rattle.request.specs.ReadBack.{first_words, identifier_by, identifier_read, no_by, no_read, told_of, ReadsBack, IdentifiersReadBack}
 use Rattle.request.specs.Reading.{Reading, read_line}
 use Rattle.request.specs.Refusals.{number_of, letter_of, fault_at}
@@ -87,7 +87,7 @@ no_fault_read (Err fault) = alone (no_line fault) ∙ no_none fault []
 pub identifiers_read_back : IdentifiersReadBack
 identifiers_read_back line page unread is = no_fault_read (read_line line)
 identifiers_read_back line page (by_call (refused refusal)) is =
-    let fault = fault_at (Book refusal) (place_in (read_line line)) in
+    let fault = fault_at (Book refusal) (offset_in (read_line line)) in
     alone (no_line fault) ∙ no_none fault []
 identifiers_read_back line page (by_call (named arcs)) is = alone (ok_line arcs) ∙ ok_read arcs [] (is arcs refl)
 identifiers_read_back line page (by_call (listed arcs children)) is =

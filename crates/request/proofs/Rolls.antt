@@ -7,7 +7,7 @@ use Rattle.std.proofs.lemmas.Option.{none-some, same_Some}
 use Rattle.oid.specs.Arcs.{is_arc}
 use Rattle.request.specs.Answers.{ok_line, child_line, last_line, roll_lines}
 use Rattle.request.specs.Limits.{least_page, least_rest}
-use Rattle.request.specs.ReadBack.{RollsFit}
+use Rattle.request.specs.Fitting.{RollsFit}
 use Rattle.request.specs.declared.child.Child.{Child}
 use Rattle.request.proofs.Fitting.{lines_fit}
 

@@ -10,7 +10,7 @@ use Rattle.book.specs.Calls.{Call, grant, claim, offer, accept, decline, retire,
 use Rattle.book.specs.Ranges.{is_holder}
 use Rattle.request.specs.Fields.{space, in_range}
 use Rattle.request.specs.Limits.{is_line}
-use Rattle.request.specs.Lines.{identifier_of, words_of, front_of, is_call}
+use Rattle.request.specs.Lines.{identifier_of, call_words, front_of, is_call}
 use Rattle.request.specs.Reading.{Reading, call_by}
 use Rattle.request.specs.Verbs.{Sort, form_of, verb_text}
 use Rattle.request.specs.declared.verb.Verb.{Verb}
@@ -45,7 +45,7 @@ pub record LineWith (line : List ℕ) (verb : Verb) (holder : ℕ) (before arcs 
 
 -- the words of the call that such a line makes
 pub words_made : (verb : Verb) (holder : ℕ) (arcs text numbers : List ℕ) → InRanges (drop 2 (form_of verb)) numbers
-    → words_of (call_by verb (holder ∷ numbers) arcs) text ≡ words_with verb holder text numbers
+    → call_words (call_by verb (holder ∷ numbers) arcs) text ≡ words_with verb holder text numbers
 words_made Grant holder arcs text _ none = refl
 words_made Claim holder arcs text _ (one_more r none) = refl
 words_made Offer holder arcs text _ (one_more r (one_more s none)) = refl

@@ -65,34 +65,33 @@ abbrev pub last_line : Option ℕ → List ℕ
 last_line None = text_line (codes "end" ∷ [])
 last_line (Some arc) = text_line (codes "more" ∷ decimal arc ∷ [])
 
--- The lines of a roll behind its `ok` line, on a page with so many bytes, of which so many are written before. A child's line is written
--- if 16 bytes remain after it.
+-- The lines of a roll behind its `ok` line, by the length of the page and how much of it is written before them. A child's line is written if
+-- 16 bytes remain after it; at the first that is not, the roll ends.
 unfoldable pub roll_lines : ℕ → ℕ → List Child → List ℕ
-roll_lines page at [] = last_line None
-roll_lines page at (child ∷ children) =
-    cond (nat_le (at + length (child_line child) + least_rest) page)
-    (child_line child ++ roll_lines page (at + length (child_line child)) children)
+roll_lines page_length written [] = last_line None
+roll_lines page_length written (child ∷ children) =
+    cond (nat_le (written + length (child_line child) + least_rest) page_length)
+    (child_line child ++ roll_lines page_length (written + length (child_line child)) children)
     (last_line (Some child.arc))
 
 -- a whole roll
 abbrev pub roll_bytes : ℕ → List ℕ → List Child → List ℕ
-roll_bytes page arcs children = ok_line arcs ++ roll_lines page (length (ok_line arcs)) children
+roll_bytes page_length arcs children = ok_line arcs ++ roll_lines page_length (length (ok_line arcs)) children
 
--- the line that says what is wrong with the text of a line; nothing is
+-- the no for a line that could not be read; one that could be read gets none
 abbrev pub fault_line : Result Reading Fault → List ℕ
 fault_line (Ok reading) = []
 fault_line (Err fault) = no_line fault
 
--- where a line's identifier begins
-abbrev pub place_in : Result Reading Fault → ℕ
-place_in (Ok reading) = reading.offset
-place_in (Err fault) = 0
+-- where a line's identifier begins; of a line that could not be read nobody asks
+abbrev pub offset_in : Result Reading Fault → ℕ
+offset_in (Ok reading) = reading.offset
+offset_in (Err fault) = 0
 
--- What is written for a line, on a page with so many bytes, of an answer. A no of the book is at the line's identifier. (No line makes a
--- collect.)
+-- What is written for a line of an answer, by the length of the page. A no of the book is at the line's identifier. No line makes a collect.
 abbrev pub answer_bytes : List ℕ → ℕ → LineAnswer → List ℕ
-answer_bytes line page unread = fault_line (read_line line)
-answer_bytes line page (by_call (refused refusal)) = no_line (fault_at (Book refusal) (place_in (read_line line)))
-answer_bytes line page (by_call (named identifier)) = ok_line identifier
-answer_bytes line page (by_call (listed identifier children)) = roll_bytes page identifier (map child_of children)
-answer_bytes line page (by_call (collected holder quota)) = []
+answer_bytes line page_length unread = fault_line (read_line line)
+answer_bytes line page_length (by_call (refused refusal)) = no_line (fault_at (Book refusal) (offset_in (read_line line)))
+answer_bytes line page_length (by_call (named identifier)) = ok_line identifier
+answer_bytes line page_length (by_call (listed identifier children)) = roll_bytes page_length identifier (map child_of children)
+answer_bytes line page_length (by_call (collected holder quota)) = []

@@ -1,12 +1,12 @@
 pub mod Limits
 pub mod Refusals
-pub mod Words
 pub mod Verbs
 pub mod Fields
 pub mod Reading
 pub mod Requests
 pub mod Lines
 pub mod Answers
+pub mod Words
 pub mod Written
 pub mod Fitting
 pub mod ReadBack

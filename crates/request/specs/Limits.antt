@@ -20,6 +20,6 @@ most_line = 240
 abbrev pub is_line : List ℕ → Bool
 is_line line = nat_le least_line (length line) && nat_le (length line) most_line
 
--- the bytes that remain of a page after each line that a roll writes of a child
+-- the fewest bytes of a page that remain after each line that a roll writes of a child
 abbrev pub least_rest : ℕ
 least_rest = 16

@@ -1,5 +1,5 @@
 -- Request lines as they are written: what it is for a line to ask for a call.
-use Rattle.std.specs.Prelude.{ℕ, ◌≡◌, ◌⊎◌, Bool, true, false, ◌&&◌, List, [], ◌∷◌, ◌++◌, length, take, drop, decimal, Ok}
+use Rattle.std.specs.Prelude.{ℕ, ◌≡◌, ◌⊎◌, Bool, true, false, ◌&&◌, List, [], ◌∷◌, ◌++◌, length, take, drop, decimal, Ok, Result}
 use Rattle.std.specs.List.{join_with_byte}
 use Rattle.oid.specs.Arcs.{is_arc}
 use Rattle.oid.specs.Tree.{is_identifier}
@@ -11,6 +11,7 @@ use Rattle.request.specs.Limits.{is_line}
 use Rattle.request.specs.Verbs.{verb_text}
 use Rattle.request.specs.Fields.{space}
 use Rattle.request.specs.Reading.{Reading, read_line}
+use Rattle.request.specs.declared.refusal.Fault.{Fault}
 use Rattle.request.specs.declared.verb.Verb.TheVariants.{Grant, Claim, Offer, Accept, Decline, Retire, Roll}
 
 -- the identifier that a call names
@@ -27,23 +28,23 @@ identifier_of (accept_grant t) = t
 identifier_of (decline_grant t) = t
 
 -- the words of a call's line, with some text for its identifier; none of a call that no line makes
-abbrev pub words_of : Call → List ℕ → List (List ℕ)
-words_of (grant holder o) text = verb_text Grant ∷ decimal holder ∷ text ∷ []
-words_of (claim holder o arc) text = verb_text Claim ∷ decimal holder ∷ text ∷ decimal arc ∷ []
-words_of (offer holder o quota taker) text = verb_text Offer ∷ decimal holder ∷ text ∷ decimal quota ∷ decimal taker ∷ []
-words_of (accept taker t) text = verb_text Accept ∷ decimal taker ∷ text ∷ []
-words_of (decline taker t) text = verb_text Decline ∷ decimal taker ∷ text ∷ []
-words_of (retire holder t) text = verb_text Retire ∷ decimal holder ∷ text ∷ []
-words_of (roll holder o from) text = verb_text Roll ∷ decimal holder ∷ text ∷ decimal from ∷ []
-words_of call text = []
+abbrev pub call_words : Call → List ℕ → List (List ℕ)
+call_words (grant holder o) text = verb_text Grant ∷ decimal holder ∷ text ∷ []
+call_words (claim holder o arc) text = verb_text Claim ∷ decimal holder ∷ text ∷ decimal arc ∷ []
+call_words (offer holder o quota taker) text = verb_text Offer ∷ decimal holder ∷ text ∷ decimal quota ∷ decimal taker ∷ []
+call_words (accept taker t) text = verb_text Accept ∷ decimal taker ∷ text ∷ []
+call_words (decline taker t) text = verb_text Decline ∷ decimal taker ∷ text ∷ []
+call_words (retire holder t) text = verb_text Retire ∷ decimal holder ∷ text ∷ []
+call_words (roll holder o from) text = verb_text Roll ∷ decimal holder ∷ text ∷ decimal from ∷ []
+call_words call text = []
 
 -- the line, with one space between the words
 abbrev pub line_of : Call → List ℕ → List ℕ
-line_of call text = join_with_byte space (words_of call text)
+line_of call text = join_with_byte space (call_words call text)
 
 -- what stands in the line before the identifier
 abbrev pub front_of : Call → List ℕ
-front_of call = join_with_byte space (take 2 (words_of call [])) ++ space ∷ []
+front_of call = join_with_byte space (take 2 (call_words call [])) ++ space ∷ []
 
 -- all numbers of the call are in their ranges, and what it names is an identifier
 abbrev pub is_call : Call → Bool
@@ -61,14 +62,14 @@ is_call call = false
 pub record Asks (line : List ℕ) (reading : Reading) : Type 0 where
   pub sized : is_line line ≡ true
   pub call : is_call reading.call ≡ true
-  pub before : List ℕ
-  pub prefixed : (before ≡ []) ⊎ (before ≡ prefix)
-  pub written : line ≡ line_of reading.call (before ++ dotted_text (identifier_of reading.call))
+  pub prefix_or_none : List ℕ
+  pub prefixed : (prefix_or_none ≡ []) ⊎ (prefix_or_none ≡ prefix)
+  pub written : line ≡ line_of reading.call (prefix_or_none ++ dotted_text (identifier_of reading.call))
   pub placed : reading.offset ≡ length (front_of reading.call)
 
--- A line is read as a call exactly when it asks for it.
-abbrev pub ReadsExactly : List ℕ → Type 0
-ReadsExactly line = (reading : Reading) → (read_line line ≡ Ok reading → Asks line reading) × (Asks line reading → read_line line ≡ Ok reading)
+-- A reader that answers so reads the line as a call exactly when the line asks for it.
+abbrev pub ReadsExactly : List ℕ → Result Reading Fault → Type 0
+ReadsExactly line answer = (reading : Reading) → (answer ≡ Ok reading → Asks line reading) × (Asks line reading → answer ≡ Ok reading)
 
 -- a line without the prefix of what begins at an offset
 abbrev pub unprefixed : ℕ → List ℕ → List ℕ

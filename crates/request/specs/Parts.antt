@@ -1,7 +1,7 @@
--- What is left of a walk over the parts of a line, and what the code's parts and fields stand for.
+-- For contracts of private functions: what is left of a walk over the parts of a line, and what the code's parts and fields stand for.
 use Rattle.std.specs.Prelude.{ℕ, ◌≡◌, cond, List, [], ◌∷◌, drop, length, nat_le, Option}
 use Rattle.std.specs.Option.{option_map, option_and_then}
-use Rattle.request.specs.Reading.{number_in_place}
+use Rattle.request.specs.Reading.{number_at_index}
 use Rattle.request.specs.Verbs.{Sort, a_holder, an_identifier, an_arc, a_quota}
 use Rattle.request.specs.Fields.{words, Part, parts_from, Field, in_form, number_fields, identifier_part}
 use Rattle.request.specs.declared.part.Part as code
@@ -26,7 +26,7 @@ field_of (Identifier part) = record { sort = an_identifier; part = part_of part 
 field_of (Arc part) = record { sort = an_arc; part = part_of part }
 field_of (Quota part) = record { sort = a_quota; part = part_of part }
 
--- What was found takes the next place of any form, whatever comes behind it; or nothing can.
+-- What was found is the next field of every form, whatever fields come behind it; or, where nothing was found, no form has a next field.
 abbrev pub FillsNext : List Part → Option Part → List Part → Type 0
 FillsNext before found after =
     (sort : Sort) (form : List Sort)
@@ -42,15 +42,15 @@ more_of Nothing = []
 more_of (One field) = field_of field ∷ []
 more_of (Two field last) = field_of field ∷ field_of last ∷ []
 
-abbrev pub numbers_of : Fields → List Field
-numbers_of fields = field_of fields.caller ∷ more_of fields.more
+abbrev pub number_fields_of : Fields → List Field
+number_fields_of fields = field_of fields.caller ∷ more_of fields.more
 
 abbrev pub split_of : Fields → List Field × Part
-split_of fields = (numbers_of fields, (field_of fields.identifier).part)
+split_of fields = (number_fields_of fields, (field_of fields.identifier).part)
 
 -- the first two numbers, and the first three, with 0 for those that are not there
 abbrev pub two : List ℕ → ℕ × ℕ
-two numbers = (number_in_place numbers 0, number_in_place numbers 1)
+two numbers = (number_at_index numbers 0, number_at_index numbers 1)
 
 abbrev pub three : List ℕ → List ℕ
-three numbers = number_in_place numbers 0 ∷ number_in_place numbers 1 ∷ number_in_place numbers 2 ∷ []
+three numbers = number_at_index numbers 0 ∷ number_at_index numbers 1 ∷ number_at_index numbers 2 ∷ []

@@ -1,22 +1,19 @@
 -- What can be read off an answer's bytes.
-use Rattle.std.specs.Prelude.{ℕ, ◌≡◌, ◌≢◌, ◌≤◌, Bool, true, cond, ◌&&◌, List, [], ◌∷◌, length, slice_index, Some, None, Ok, Err, Option, Result, ◌==◌, codes}
+use Rattle.std.specs.Prelude.{ℕ, ◌≡◌, ◌≢◌, ◌<◌, ◌^◌, true, cond, List, [], ◌∷◌, slice_index, Some, None, Ok, Err, Option, Result, ◌==◌, codes}
 use Rattle.std.specs.Cmp.Lexicographic.{pointwise}
-use Rattle.std.specs.List.{before_first, list_all}
+use Rattle.std.specs.List.{before_first}
 use Rattle.std.specs.Option.{ForSome}
 use Rattle.std.specs.Result.{result_ok}
-use Rattle.oid.specs.Arcs.{is_arc}
 use Rattle.oid.specs.Meaning.{arcs_of}
 use Rattle.oid.specs.Tree.{is_identifier}
 use Rattle.oid.specs.declared.identifier.Identifier.{Identifier}
 use Rattle.dotted.specs.Pieces.{decimal_value}
 use Rattle.dotted.specs.Reading.{read_dotted}
 use Rattle.book.specs.Kinds.{is_authority}
-use Rattle.book.specs.Ranges.{is_holder, is_quota}
 use Rattle.book.specs.Runs.{LineAnswer, identifier_in}
-use Rattle.request.specs.Limits.{has_room}
 use Rattle.request.specs.Refusals.{number_of, letter_of}
 use Rattle.request.specs.Fields.{words}
-use Rattle.request.specs.Answers.{feed, child_line, last_line, roll_bytes, answer_bytes}
+use Rattle.request.specs.Answers.{feed, child_line, last_line, answer_bytes}
 use Rattle.request.specs.declared.child.Child.{Child}
 use Rattle.request.specs.declared.refusal.Fault.{Fault}
 
@@ -51,7 +48,7 @@ no_read bytes = no_by (first_words bytes)
 abbrev pub told_of : Fault → No
 told_of fault = record { number = number_of fault.refusal; letter = letter_of fault.refusal; offset = fault.offset }
 
--- From a page can be read back with which answer its first line was written.
+-- A page tells for which answer its first line was written.
 abbrev pub ReadsBack : Result Identifier Fault → List ℕ → Type 0
 ReadsBack (Ok identifier) page = (identifier_read page ≡ Some (arcs_of identifier)) × (no_read page ≡ None)
 ReadsBack (Err fault) page = (identifier_read page ≡ None) × (no_read page ≡ Some (told_of fault))
@@ -62,9 +59,11 @@ IdentifiersReadBack = (line : List ℕ) (page : ℕ) (answer : LineAnswer)
     → ForSome (identifier_in answer) (λ identifier. is_identifier identifier ≡ true)
     → identifier_read (answer_bytes line page answer) ≡ identifier_in answer
 
--- a child's numbers are in their ranges
-abbrev pub is_child : Child → Bool
-is_child child = is_arc child.arc && (is_holder child.holder && is_quota child.quota)
+-- A child's numbers have no more than 64 bits.
+pub record HasNumbers (child : Child) : Type 0 where
+  pub arc : child.arc < 2 ^ 64
+  pub holder : child.holder < 2 ^ 64
+  pub quota : child.quota < 2 ^ 64
 
 -- A roll shows two children alike.
 pub record ShownAlike (one other : Child) : Type 0 where
@@ -75,10 +74,5 @@ pub record ShownAlike (one other : Child) : Type 0 where
 
 -- Two lines of children that are equal are of children that a roll shows alike; and no such line ends a roll.
 pub record ChildLinesApart : Type 0 where
-  pub alike : (one other : Child) → is_child one ≡ true → is_child other ≡ true → child_line one ≡ child_line other → ShownAlike one other
-  pub no_last : (child : Child) (next : Option ℕ) → is_child child ≡ true → child_line child ≢ last_line next
-
--- A roll fits on each page that is long enough for answers.
-abbrev pub RollsFit : Type 0
-RollsFit = (page : ℕ) (arcs : List ℕ) (children : List Child) → has_room page ≡ true → is_identifier arcs ≡ true
-    → list_all (λ child. is_arc child.arc) children ≡ true → length (roll_bytes page arcs children) ≤ page
+  pub alike : (one other : Child) → HasNumbers one → HasNumbers other → child_line one ≡ child_line other → ShownAlike one other
+  pub no_last : (child : Child) (next : Option ℕ) → HasNumbers child → child_line child ≢ last_line next

@@ -21,19 +21,19 @@ pub record Reading : Type 0 where
   pub call : Call
   pub offset : ℕ
 
--- a line's number, by its place among those that the line has
-abbrev pub number_in_place : List ℕ → ℕ → ℕ
-number_in_place numbers place = slice_index_or numbers place 0
+-- the number at an index among those that a line has, 0 where there is none
+abbrev pub number_at_index : List ℕ → ℕ → ℕ
+number_at_index numbers index = slice_index_or numbers index 0
 
 -- The call that a verb makes, of the numbers in its number fields, in their order, and of its identifier.
 abbrev pub call_by : Verb → List ℕ → List ℕ → Call
-call_by Grant numbers o = grant (number_in_place numbers 0) o
-call_by Claim numbers o = claim (number_in_place numbers 0) o (number_in_place numbers 1)
-call_by Offer numbers o = offer (number_in_place numbers 0) o (number_in_place numbers 1) (number_in_place numbers 2)
-call_by Accept numbers t = accept (number_in_place numbers 0) t
-call_by Decline numbers t = decline (number_in_place numbers 0) t
-call_by Retire numbers t = retire (number_in_place numbers 0) t
-call_by Roll numbers o = roll (number_in_place numbers 0) o (number_in_place numbers 1)
+call_by Grant numbers o = grant (number_at_index numbers 0) o
+call_by Claim numbers o = claim (number_at_index numbers 0) o (number_at_index numbers 1)
+call_by Offer numbers o = offer (number_at_index numbers 0) o (number_at_index numbers 1) (number_at_index numbers 2)
+call_by Accept numbers t = accept (number_at_index numbers 0) t
+call_by Decline numbers t = decline (number_at_index numbers 0) t
+call_by Retire numbers t = retire (number_at_index numbers 0) t
+call_by Roll numbers o = roll (number_at_index numbers 0) o (number_at_index numbers 1)
 
 -- 11. Are the bytes before any space one of the seven verbs?
 abbrev pub verb_in : List ℕ → Option Verb

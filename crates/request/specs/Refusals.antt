@@ -21,13 +21,13 @@ line_number UnknownVerb = 11
 line_number WrongFields = 12
 line_number NotANumber = 13
 
--- A line is refused for its text, for the text of its identifier, or by the book. The number that it is told by:
+-- the number of any refusal of a line, for its text, for the text of its identifier, or by the book
 abbrev pub number_of : Refusal → ℕ
 number_of (Line refusal) = line_number refusal
 number_of (Identifier refusal) = oid.number_of refusal
 number_of (Book refusal) = book.number_of refusal
 
--- and the letter: L, C or R
+-- the letter that goes with it: L, C or R, as a byte
 abbrev pub letter_of : Refusal → ℕ
 letter_of (Line refusal) = 76
 letter_of (Identifier refusal) = 67

@@ -1,7 +1,10 @@
 -- What the code's requests mean.
+use Rattle.std.specs.Prelude.{Result}
+use Rattle.std.specs.Result.{result_map_both}
 use Rattle.oid.specs.Meaning.{arcs_of}
 use Rattle.book.specs.Calls.{Call, grant, claim, offer, accept, decline, retire, roll}
 use Rattle.request.specs.Reading.{Reading}
+use Rattle.request.specs.declared.refusal.Fault.{Fault}
 use Rattle.request.specs.declared.request.Request.{Request}
 use Rattle.request.specs.declared.request.Request.TheVariants.{Grant, Claim, Offer, Accept, Decline, Retire, Roll}
 use Rattle.request.specs.declared.request.Reading as code
@@ -16,6 +19,9 @@ call_of_request (Decline taker entry) = decline taker (arcs_of entry)
 call_of_request (Retire holder entry) = retire holder (arcs_of entry)
 call_of_request (Roll holder authority from) = roll holder (arcs_of authority) from
 
--- what the code's `Reading` means
+-- what the code's `Reading` means, and what a reader answers
 abbrev pub reading_of : code.Reading → Reading
 reading_of reading = record { call = call_of_request reading.request; offset = reading.offset }
+
+abbrev pub read_as : Result code.Reading Fault → Result Reading Fault
+read_as answer = result_map_both reading_of (λ fault. fault) answer

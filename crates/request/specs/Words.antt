@@ -2,13 +2,19 @@
 use Rattle.std.specs.Prelude.{ℕ, List, [], ◌∷◌, ◌++◌, codes, decimal}
 use Rattle.oid.specs.Words as oid
 use Rattle.book.specs.Words as book
-use Rattle.request.specs.Limits.{least_line, most_line}
+use Rattle.request.specs.Limits.{least_page, least_line, most_line}
 use Rattle.request.specs.Refusals.{number_of, letter_of}
+use Rattle.request.specs.declared.page.PageRefusal.{PageRefusal}
+use Rattle.request.specs.declared.page.PageRefusal.TheVariants.{TooShort}
 use Rattle.request.specs.declared.refusal.LineRefusal.{LineRefusal}
 use Rattle.request.specs.declared.refusal.LineRefusal.TheVariants.{LineLength, UnknownVerb, WrongFields, NotANumber}
 use Rattle.request.specs.declared.refusal.Refusal.{Refusal}
 use Rattle.request.specs.declared.refusal.Refusal.TheVariants.{Line, Identifier, Book}
 use Rattle.request.specs.declared.refusal.Fault.{Fault}
+
+-- what is wrong with a page
+abbrev pub page_words : PageRefusal → List ℕ
+page_words TooShort = codes "the page has fewer than " ++ (decimal least_page ++ codes " bytes")
 
 -- what is wrong with a line; 'here' is the fault's offset
 abbrev pub line_words : LineRefusal → List ℕ

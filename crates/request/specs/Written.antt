@@ -1,5 +1,5 @@
 -- What is written of a page.
-use Rattle.std.specs.Prelude.{ℕ, ◌+◌, ◌≡◌, Bool, true, cond, List, [], ◌++◌, length, take, nat_le, is_ok, Result}
+use Rattle.std.specs.Prelude.{ℕ, ◌+◌, ◌≡◌, Bool, true, cond, List, length, take, nat_le, is_ok, Result}
 use Rattle.oid.specs.Pages.{placed, fits}
 use Rattle.oid.specs.declared.refusal.Refusal.{Refusal}
 
@@ -11,9 +11,11 @@ pub record Puts (bytes : List ℕ) (before : ℕ) (page : List ℕ) (answer : Re
   pub before_it : take before page_after ≡ take before page
   pub long : length page_after ≡ length page
 
--- A whole line was put there, with so many bytes of the page left behind it; or it was not, and then nothing is counted.
-pub record PutsLine (bytes : List ℕ) (rest before : ℕ) (page : List ℕ) (answer : Bool) (after : ℕ) (page_after : List ℕ) : Type 0 where
-  pub answers : answer ≡ nat_le (before + length bytes + rest) (length page)
-  pub counted : after ≡ cond answer (before + length bytes) before
-  pub written : take after page_after ≡ take before page ++ cond answer bytes []
+-- A whole line was put there, where so many bytes of the page remain after it, and nothing else of the page has changed; or it was not, and
+-- then nothing is counted, and nothing has changed of what was written before.
+pub record PutsLine (bytes : List ℕ) (rest before : ℕ) (page : List ℕ) (done : Bool) (after : ℕ) (page_after : List ℕ) : Type 0 where
+  pub answers : done ≡ nat_le (before + length bytes + rest) (length page)
+  pub counted : after ≡ cond done (before + length bytes) before
+  pub there : done ≡ true → page_after ≡ placed before bytes page
+  pub before_it : take before page_after ≡ take before page
   pub long : length page_after ≡ length page

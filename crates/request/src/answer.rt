@@ -12,11 +12,11 @@ ghost use Rattle.request.specs.declared.page.PageRefusal.TheVariants.{TooShort};
 use crate::page::{PageRefusal, has_room};
 use crate::refusal::Fault;
 use crate::written::Written;
-use oid::{Identifier, Refusal};
+use oid::Identifier;
 
 // Writes an answer's first line at the front of a page: `ok` and an identifier, or `no` and a fault. It answers the line's length, and
 // leaves the rest of the page as it was; the answer can be read back from the page. A page that is too short for answers is untouched.
-pub fn write_answer(
+pub fn write_first_line(
     answer: Result<Identifier, Fault>,
     page: &mut [u8],
 ) -> Result<usize, PageRefusal>
@@ -30,6 +30,7 @@ pub fn write_answer(
     let mut written = Written { length: 0 };
     match put_first(&mut written, page, answer) {
         Ok(()) => Ok(written.length),
+        // A first line fits on every page that is long enough, so this is never so.
         Err(_) => Err(PageRefusal::TooShort),
     }
 }
@@ -38,7 +39,7 @@ fn put_first(
     written: &mut Written,
     page: &mut [u8],
     answer: Result<Identifier, Fault>,
-) -> Result<(), Refusal>
+) -> Result<(), oid::Refusal>
     ensures puts { Puts (first_line answer) written.old.length page.old result written.new.length page.new }
     ensures offset { ForErr answer (λ fault. fault.offset < 2 ^ 64) }
 {
@@ -49,7 +50,11 @@ fn put_first(
 }
 
 // `ok` and an identifier.
-fn put_ok(written: &mut Written, page: &mut [u8], identifier: &Identifier) -> Result<(), Refusal>
+fn put_ok(
+    written: &mut Written,
+    page: &mut [u8],
+    identifier: &Identifier,
+) -> Result<(), oid::Refusal>
     ensures { Puts (ok_line (arcs_of identifier.now)) written.old.length page.old result written.new.length page.new }
 {
     written.put_word(page, b"ok", b' ')?;
@@ -57,7 +62,7 @@ fn put_ok(written: &mut Written, page: &mut [u8], identifier: &Identifier) -> Re
 }
 
 // `no`, the refusal's number and letter, and the offset.
-fn put_no(written: &mut Written, page: &mut [u8], fault: Fault) -> Result<(), Refusal>
+fn put_no(written: &mut Written, page: &mut [u8], fault: Fault) -> Result<(), oid::Refusal>
     ensures puts { Puts (no_line fault) written.old.length page.old result written.new.length page.new }
     ensures offset { fault.offset < 2 ^ 64 }
 {

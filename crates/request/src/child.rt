@@ -5,7 +5,7 @@ ghost use Rattle.request.specs.Answers.{kind_word};
 use book::Kind;
 use oid::Arc;
 
-// A child of the roll's authority: its arc and kind, and for authorities, who holds it, with which quota.
+// A child of the roll's authority: its arc, its kind, its holder and its quota. Of panels, retired or not, the last two are not shown.
 #[derive(Clone, Copy, PartialEq, Eq, Debug)]
 pub struct Child {
     pub arc: Arc,

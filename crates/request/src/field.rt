@@ -5,6 +5,7 @@ ghost use Rattle.std.specs.Str.{all_ascii_digits};
 ghost use Rattle.oid.specs.Arcs.{arc_of};
 ghost use Rattle.request.specs.Fields.{is_numeral, numeral, number_in};
 ghost use Rattle.request.specs.Parts.{part_of, field_of};
+ghost use Rattle.request.specs.declared.refusal.LineRefusal.TheVariants.{NotANumber};
 
 use crate::part::Part;
 use crate::refusal::LineRefusal;
@@ -34,7 +35,7 @@ impl<'a> Field<'a> {
 
     // The number in a number field. It is refused where it is not a number in its range.
     pub(crate) fn number(&self) -> Result<u32, LineRefusal>
-        ensures { MatchResult result (λ number. number_in (field_of self.now) ≡ Some number) (λ refusal. number_in (field_of self.now) ≡ None) }
+        ensures { MatchResult result (λ number. number_in (field_of self.now) ≡ Some number) (λ refusal. (number_in (field_of self.now) ≡ None) × (refusal ≡ NotANumber)) }
     {
         let Some(number) = numeral(self.part().text) else {
             return Err(LineRefusal::NotANumber);

@@ -3,7 +3,7 @@ ghost use Rattle.std.specs.Prelude.{◌≡◌, drop};
 ghost use Rattle.std.specs.Option.{option_map};
 ghost use Rattle.std.specs.Result.{result_map_both};
 ghost use Rattle.request.specs.Fields.{in_form};
-ghost use Rattle.request.specs.Parts.{parts_left, field_of, split, split_of, more_of, numbers_of, two, three};
+ghost use Rattle.request.specs.Parts.{parts_left, field_of, split, split_of, more_of, number_fields_of, two, three};
 ghost use Rattle.request.specs.Reading.{numbers_in, number_at};
 ghost use Rattle.request.specs.Verbs.{form_of};
 
@@ -46,7 +46,7 @@ impl<'a> Fields<'a> {
     // The numbers in the number fields, in their order, with 0 for those that the verb does not have; or the fault at the first that is
     // not a number in its range.
     pub(crate) fn numbers(&self) -> Result<[u32; 3], Fault>
-        ensures { result ≡ result_map_both three (λ fault. fault) (numbers_in (numbers_of self.now)) }
+        ensures { result ≡ result_map_both three (λ fault. fault) (numbers_in (number_fields_of self.now)) }
     {
         let caller = number_at(self.caller)?;
         let (second, third) = self.more.numbers()?;
@@ -59,20 +59,16 @@ impl<'a> More<'a> {
     fn of(verb: Verb, mut parts: Parts<'a>) -> Option<More<'a>>
         ensures { option_map more_of result ≡ in_form (drop 2 (form_of verb)) (parts_left parts.entry) }
     {
-        match verb {
-            Verb::Grant | Verb::Accept | Verb::Decline | Verb::Retire => {}
-            Verb::Claim | Verb::Roll => {
-                let arc = parts.filled()?;
-                return parts.is_done().then_some(More::One(Field::Arc(arc)));
-            }
+        let more = match verb {
+            Verb::Grant | Verb::Accept | Verb::Decline | Verb::Retire => More::Nothing,
+            Verb::Claim | Verb::Roll => More::One(Field::Arc(parts.filled()?)),
             Verb::Offer => {
                 let quota = parts.filled()?;
                 let taker = parts.filled()?;
-                let fields = More::Two(Field::Quota(quota), Field::Holder(taker));
-                return parts.is_done().then_some(fields);
+                More::Two(Field::Quota(quota), Field::Holder(taker))
             }
-        }
-        parts.is_done().then_some(More::Nothing)
+        };
+        parts.is_done().then_some(more)
     }
 
     // The numbers in them, or the first fault.

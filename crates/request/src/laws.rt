@@ -1,8 +1,8 @@
 // Laws of request lines, each as the contract of a function.
 ghost use Rattle.request.specs.Example.{WorkedLines};
-ghost use Rattle.request.specs.Fitting.{LinesFit};
+ghost use Rattle.request.specs.Fitting.{LinesFit, RollsFit};
 ghost use Rattle.request.specs.Lines.{EqualButPrefix};
-ghost use Rattle.request.specs.ReadBack.{IdentifiersReadBack, ChildLinesApart, RollsFit};
+ghost use Rattle.request.specs.ReadBack.{IdentifiersReadBack, ChildLinesApart};
 
 // Two lines that are read as one call are equal but for their identifiers' prefix.
 pub fn equal_but_prefix()

@@ -19,6 +19,7 @@ mod verb;
 pub mod words;
 pub mod written;
 
+pub use answer::write_first_line;
 pub use child::Child;
 pub use limits::{LEAST_LINE, MOST_LINE};
 pub use page::{LEAST_PAGE, LEAST_REST, PageRefusal};

@@ -6,7 +6,7 @@ ghost use Rattle.request.specs.Refusals.{page_number};
 // The fewest bytes of a page that an answer is written on.
 pub const LEAST_PAGE: usize = 256;
 
-// The bytes that remain of a page after each line that a roll writes of a child.
+// The fewest bytes of a page that remain after each line that a roll writes of a child.
 pub const LEAST_REST: usize = 16;
 
 // The refusal of a page. The number is all that is told.

@@ -7,7 +7,7 @@ ghost use Rattle.book.specs.Calls.{place_of};
 ghost use Rattle.request.specs.Lines.{ReadsExactly};
 ghost use Rattle.request.specs.Parts.{part_of};
 ghost use Rattle.request.specs.Reading.{identifier_in, call_by, read_line, place_of_line};
-ghost use Rattle.request.specs.Requests.{call_of_request, reading_of};
+ghost use Rattle.request.specs.Requests.{call_of_request, read_as};
 
 use crate::fields::Fields;
 use crate::limits::is_line;
@@ -21,8 +21,8 @@ use oid::Identifier;
 // Reads a line, any bytes, as a request, or finds the first fault of its text.
 #[tactic(auto, unfolding(crate::specs::Reading::read_line))]
 pub fn read(line: &[u8]) -> Result<Reading, Fault>
-    ensures value { result_map_both reading_of (λ fault. fault) result ≡ read_line line.now }
-    ensures exactly { ReadsExactly line.now }
+    ensures value { read_as result ≡ read_line line.now }
+    ensures exactly { ReadsExactly line.now (read_as result) }
     ensures place { place_of_line line.now ≡ option_and_then (λ reading. place_of (call_of_request reading.request)) (result_ok result) }
 {
     if !is_line(line) {
@@ -67,37 +67,37 @@ fn identifier_in(part: Part<'_>) -> Result<Identifier, Fault>
 fn request(verb: Verb, numbers: [u32; 3], identifier: Identifier) -> Request
     ensures { call_of_request result ≡ call_by verb numbers (arcs_of identifier) }
 {
-    let [holder, second, taker] = numbers;
+    let [caller, second, third] = numbers;
     match verb {
         Verb::Grant => Request::Grant {
-            holder,
+            holder: caller,
             authority: identifier,
         },
         Verb::Claim => Request::Claim {
-            holder,
+            holder: caller,
             authority: identifier,
             arc: second,
         },
         Verb::Offer => Request::Offer {
-            holder,
+            holder: caller,
             authority: identifier,
             quota: second,
-            taker,
+            taker: third,
         },
         Verb::Accept => Request::Accept {
-            taker: holder,
+            taker: caller,
             entry: identifier,
         },
         Verb::Decline => Request::Decline {
-            taker: holder,
+            taker: caller,
             entry: identifier,
         },
         Verb::Retire => Request::Retire {
-            holder,
+            holder: caller,
             entry: identifier,
         },
         Verb::Roll => Request::Roll {
-            holder,
+            holder: caller,
             authority: identifier,
             from: second,
         },

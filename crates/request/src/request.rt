@@ -1,8 +1,8 @@
-// What a line asks for, once it is read.
+// Requests: lines that have been read.
 use oid::{Arc, Identifier};
 
 // The requests that lines make: who asks, by a holder's number; of which authority or entry; and what else the request names.
-#[derive(Clone, Copy)]
+#[derive(Clone, Copy, PartialEq, Eq)]
 pub enum Request {
     // a panel below the authority
     Grant {
@@ -46,7 +46,7 @@ pub enum Request {
 }
 
 // A request, and where in its line the identifier begins.
-#[derive(Clone, Copy)]
+#[derive(Clone, Copy, PartialEq, Eq)]
 pub struct Reading {
     pub request: Request,
     pub offset: usize,

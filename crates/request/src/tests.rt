@@ -1,6 +1,5 @@
 // Answers and rolls on pages of many lengths.
-use crate::answer::write_answer;
-use crate::{Child, Fault, LineRefusal, PageRefusal, Refusal, Written};
+use crate::{Child, Fault, LineRefusal, PageRefusal, Refusal, Written, write_first_line};
 use book::Kind;
 use oid::{Arc, Identifier};
 use std::test::Fail;
@@ -29,7 +28,7 @@ fn answers(rt: HostRuntime) -> Result<(), Fail> {
     ];
     for (answer, line) in answers {
         let mut page = [BLANK; 256];
-        assert_eq!(rt; write_answer(answer, &mut page), Ok(line.len()));
+        assert_eq!(rt; write_first_line(answer, &mut page), Ok(line.len()));
         assert!(rt; page.starts_with(line));
         assert!(rt;
             page[line.len().min(256)..]
@@ -38,7 +37,7 @@ fn answers(rt: HostRuntime) -> Result<(), Fail> {
         );
         let mut short = [BLANK; 255];
         assert_eq!(rt;
-            write_answer(answer, &mut short),
+            write_first_line(answer, &mut short),
             Err(PageRefusal::TooShort)
         );
         assert!(rt; short.iter().all(|byte| *byte == BLANK));
@@ -59,7 +58,7 @@ fn child(arc: Arc, kind: Kind) -> Child {
 fn rolls(rt: HostRuntime) -> Result<(), Fail> {
     let mut page = [BLANK; 63];
     let mut written = Written { length: 0 };
-    assert!(rt; written.put_child(&mut page, &child(1, Kind::Open)).is_ok());
+    assert!(rt; written.put_child(&mut page, &child(1, Kind::Open)));
     assert!(rt;
         written
             .put_child(&mut page, &child(3, Kind::InHand))
@@ -72,7 +71,9 @@ fn rolls(rt: HostRuntime) -> Result<(), Fail> {
     );
     assert_eq!(rt; written.length, 36);
     // 11 bytes more would leave 16, and 12 would leave 15.
-    let mut ended = written;
+    let mut ended = Written {
+        length: written.length,
+    };
     assert!(rt;
         written
             .put_child(&mut page, &child(1000, Kind::Panel))
@@ -84,9 +85,9 @@ fn rolls(rt: HostRuntime) -> Result<(), Fail> {
             .is_err()
     );
     assert_eq!(rt; ended.length, 36);
-    assert!(rt; ended.put_last(&mut page, Some(10000)).is_ok());
+    assert!(rt; ended.put_last(&mut page, Some(10000)));
     assert!(rt; page.starts_with(b"1 open 7 4\n3 inhand 7 4\n100 retired\nmore 10000\n"));
-    assert!(rt; written.put_last(&mut page, None).is_ok());
+    assert!(rt; written.put_last(&mut page, None));
     assert_eq!(rt; written.length, 51);
     Ok(())
 }

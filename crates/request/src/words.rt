@@ -1,12 +1,25 @@
-// Refusals and faults of lines in words.
+// Refusals of pages and of lines in words, and faults.
 ghost use Rattle.std.specs.Prelude.{◌≡◌, Some, ◌∷◌, []};
 ghost use Rattle.request.specs.Refusals.{letter_of};
-ghost use Rattle.request.specs.Words.{line_words, words_of, fault_text};
+ghost use Rattle.request.specs.Words.{page_words, line_words, words_of, fault_text};
 
 use crate::limits::{LEAST_LINE, MOST_LINE};
+use crate::page::{LEAST_PAGE, PageRefusal};
 use crate::refusal::{Fault, LineRefusal, Refusal};
 use std::error::Error;
 use std::fmt;
+
+impl fmt::Display for PageRefusal {
+    ghost output = { λ refusal. Some (page_words refusal) };
+
+    fn fmt<W: fmt::Write>(&self, f: &mut fmt::Formatter<W>) -> fmt::Result {
+        match self {
+            PageRefusal::TooShort => write!(f, "the page has fewer than {LEAST_PAGE} bytes"),
+        }
+    }
+}
+
+impl Error for PageRefusal {}
 
 // What is wrong; where it speaks of a place, that is a fault's offset.
 impl fmt::Display for LineRefusal {

@@ -6,17 +6,22 @@ ghost use Rattle.dotted.specs.Writing.{dotted_text};
 ghost use Rattle.request.specs.Written.{Puts};
 
 use dotted::decimal::write_decimal;
-use oid::{Identifier, Refusal, fits};
+use oid::{Identifier, fits};
 
 // How many bytes of a page are written, from its front on. The bytes themselves are lent beside it.
-#[derive(Clone, Copy)]
+#[derive(Drop)]
 pub struct Written {
     pub length: usize,
 }
 
 impl Written {
     // A word behind what is written, and a byte that ends it.
-    pub(crate) fn put_word(&mut self, page: &mut [u8], word: &[u8], end: u8) -> Result<(), Refusal>
+    pub(crate) fn put_word(
+        &mut self,
+        page: &mut [u8],
+        word: &[u8],
+        end: u8,
+    ) -> Result<(), oid::Refusal>
         ensures { Puts (word.now ++ end ∷ []) self.old.length page.old result self.new.length page.new }
     {
         self.put_bytes(page, word)?;
@@ -29,7 +34,7 @@ impl Written {
         page: &mut [u8],
         number: u64,
         end: u8,
-    ) -> Result<(), Refusal>
+    ) -> Result<(), oid::Refusal>
         ensures { Puts (decimal number ++ end ∷ []) self.old.length page.old result self.new.length page.new }
     {
         self.length = write_decimal(number, page, self.length)?;
@@ -42,18 +47,18 @@ impl Written {
         page: &mut [u8],
         identifier: &Identifier,
         end: u8,
-    ) -> Result<(), Refusal>
+    ) -> Result<(), oid::Refusal>
         ensures { Puts (dotted_text (arcs_of identifier.now) ++ end ∷ []) self.old.length page.old result self.new.length page.new }
     {
         self.length = dotted::write(identifier, page, self.length)?;
         self.put_bytes(page, &[end])
     }
 
-    fn put_bytes(&mut self, page: &mut [u8], bytes: &[u8]) -> Result<(), Refusal>
+    fn put_bytes(&mut self, page: &mut [u8], bytes: &[u8]) -> Result<(), oid::Refusal>
         ensures { Puts bytes.now self.old.length page.old result self.new.length page.new }
     {
         if !fits(page, self.length, bytes.len()) {
-            return Err(Refusal::PageTooShort);
+            return Err(oid::Refusal::PageTooShort);
         }
         put_front(&mut page[self.length..], bytes);
         self.length += bytes.len();

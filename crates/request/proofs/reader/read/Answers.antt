@@ -5,7 +5,7 @@ use Rattle.std.proofs.lemmas.Result.{err_from_is_err_and}
 use Rattle.oid.specs.Meaning.{arcs_of}
 use Rattle.request.specs.Fields.{Field, Part, number_fields, identifier_part}
 use Rattle.request.specs.Limits.{least_line, most_line, is_line}
-use Rattle.request.specs.Parts.{field_of, numbers_of, split, split_of, three}
+use Rattle.request.specs.Parts.{field_of, number_fields_of, split, split_of, three}
 use Rattle.request.specs.Reading.{verb_in, fields_in, numbers_in, identifier_in, read_line, call_by}
 use Rattle.request.specs.Requests.{reading_of}
 use Rattle.request.specs.Verbs.{verb_of}
@@ -29,7 +29,7 @@ module _ (c : In-Some-of) where
   found =
       unmapped split _ (split_of c.in-Some-of.fields) (fields_found c.in-Some.verb c.args.line.now c.first_piece-word.result.now _ c.first_piece-word.ensures c.in-Some-of.ensures)
 
-  numbers_are : (answer : Result (List ℕ) Fault) → answer ≡ result_map_both three (λ fault. fault) (numbers_in (numbers_of c.in-Some-of.fields))
+  numbers_are : (answer : Result (List ℕ) Fault) → answer ≡ result_map_both three (λ fault. fault) (numbers_in (number_fields_of c.in-Some-of.fields))
       → answer ≡ result_map_both three (λ fault. fault) (numbers_in (number_fields found.0))
   numbers_are answer is = is ∙ ap (λ p. result_map_both three (λ fault. fault) (numbers_in p.0)) (sym found.2)
 
@@ -37,7 +37,7 @@ pub returns-in_default-of : goal.returns-in_default-of
 returns-in_default-of c =
     let value : result_map_both reading_of (λ fault. fault) (Err c.at-in_default-of.result) ≡ read_line c.args.line.now =
     ap Err c.at-in_default-of.ensures ∙ sym (no_fields c.args.line.now (sym c.is_line.ensures ∙ c.if-not-is_line.false) c.in-Some.verb (ap verb_of (sym c.first_piece-word.ensures) ∙ sym c.in-Some.ensures) (unmapped_none split _ (sym (fields_found c.in-Some.verb c.args.line.now c.first_piece-word.result.now _ c.first_piece-word.ensures c.in_default-of.ensures)))) in
-    record { value = value; exactly = reads_exactly c.args.line.now; place = place_read c.args.line.now (Err c.at-in_default-of.result) value }
+    record { value = value; exactly = reads_exactly c.args.line.now _ value; place = place_read c.args.line.now (Err c.at-in_default-of.result) value }
 
 pub returns-in_err-numbers : goal.returns-in_err-numbers
 returns-in_err-numbers c =
@@ -48,7 +48,7 @@ returns-in_err-numbers c =
     let found = c.from_residual.result in
     let value : result_map_both reading_of (λ fault. fault) found ≡ read_line c.args.line.now =
     ap (result_map_both reading_of (λ fault. fault)) (p.1 ∙ ap Err p.2) ∙ sym (no_numbers c.args.line.now (sized s) c.in-Some.verb (verb_is s) f.0 f.1 _ no) in
-    record { value = value; exactly = reads_exactly c.args.line.now; place = place_read c.args.line.now found value }
+    record { value = value; exactly = reads_exactly c.args.line.now _ value; place = place_read c.args.line.now found value }
 
 -- the part of the identifier's field
 place_is : (s : In-Some-of) (place : Part) → place ≡ (field_of s.in-Some-of.fields.identifier).part → identifier_part (found s).0 ≡ place
@@ -72,7 +72,7 @@ returns-in_err-identifier c =
     let found = c.from_residual-in_err-identifier.result in
     let value : result_map_both reading_of (λ fault. fault) found ≡ read_line c.args.line.now =
     ap (result_map_both reading_of (λ fault. fault)) (p.1 ∙ ap Err p.2) ∙ sym (no_identifier c.args.line.now (sized s) c.in-Some.verb (verb_is s) f.0 f.1 n.0 n.1 _ no) in
-    record { value = value; exactly = reads_exactly c.args.line.now; place = place_read c.args.line.now found value }
+    record { value = value; exactly = reads_exactly c.args.line.now _ value; place = place_read c.args.line.now found value }
 
 pub returns : goal.returns
 returns c =
@@ -86,4 +86,4 @@ returns c =
     let found = Ok (record { request = c.request.result; offset = c.part-part.result.offset }) in
     let value : result_map_both reading_of (λ fault. fault) found ≡ read_line c.args.line.now =
     (λ k. Ok (record { call = call k; offset = (sym same k).offset })) ∙ sym (all_read c.args.line.now (sized s) c.in-Some.verb (verb_is s) f.0 f.1 n.0 n.1 arcs yes) in
-    record { value = value; exactly = reads_exactly c.args.line.now; place = place_read c.args.line.now found value }
+    record { value = value; exactly = reads_exactly c.args.line.now _ value; place = place_read c.args.line.now found value }

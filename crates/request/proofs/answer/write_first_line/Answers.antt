@@ -7,8 +7,8 @@ use Rattle.request.specs.Limits.{has_room}
 use Rattle.request.specs.ReadBack.{ReadsBack}
 use Rattle.request.proofs.Fitting.{first_fits}
 use Rattle.request.proofs.ReadBack.{reads_it_back}
-use Rattle.request.proofs.answer.write_answer.Goals as goal
-use Rattle.request.proofs.answer.write_answer.Goals.{After-put_first}
+use Rattle.request.proofs.answer.write_first_line.Goals as goal
+use Rattle.request.proofs.answer.write_first_line.Goals.{After-put_first}
 
 -- the page is long enough for answers, and so for this one
 module _ (c : After-put_first) where
