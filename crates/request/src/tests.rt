@@ -59,31 +59,15 @@ fn rolls(rt: HostRuntime) -> Result<(), Fail> {
     let mut page = [BLANK; 63];
     let mut written = Written { length: 0 };
     assert!(rt; written.put_child(&mut page, &child(1, Kind::Open)));
-    assert!(rt;
-        written
-            .put_child(&mut page, &child(3, Kind::InHand))
-            .is_ok()
-    );
-    assert!(rt;
-        written
-            .put_child(&mut page, &child(100, Kind::Retired))
-            .is_ok()
-    );
+    assert!(rt; written.put_child(&mut page, &child(3, Kind::InHand)));
+    assert!(rt; written.put_child(&mut page, &child(100, Kind::Retired)));
     assert_eq!(rt; written.length, 36);
     // 11 bytes more would leave 16, and 12 would leave 15.
     let mut ended = Written {
         length: written.length,
     };
-    assert!(rt;
-        written
-            .put_child(&mut page, &child(1000, Kind::Panel))
-            .is_ok()
-    );
-    assert!(rt;
-        ended
-            .put_child(&mut page, &child(10000, Kind::Panel))
-            .is_err()
-    );
+    assert!(rt; written.put_child(&mut page, &child(1000, Kind::Panel)));
+    assert!(rt; !ended.put_child(&mut page, &child(10000, Kind::Panel)));
     assert_eq!(rt; ended.length, 36);
     assert!(rt; ended.put_last(&mut page, Some(10000)));
     assert!(rt; page.starts_with(b"1 open 7 4\n3 inhand 7 4\n100 retired\nmore 10000\n"));
