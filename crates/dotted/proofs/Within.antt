@@ -1,5 +1,5 @@
--- A fault of a text lies in it, or at its end.
-use Rattle.std.proofs.Common.{◌≡◌, ℕ, zero, suc, ◌+◌, ◌≤◌, Bool, true, false, cond, leb, List, [], ◌∷◌, map, length, drop, get_or, Some, None, Ok, Err, Option, Result, sym, refl, ap, ◌∙◌, arith}
+-- A fault of a text lies in it, or at its end, and its refusal is one of five.
+use Rattle.std.proofs.Common.{◌≡◌, ℕ, zero, suc, ◌+◌, ◌≤◌, Bool, true, false, cond, leb, List, [], ◌∷◌, map, length, drop, get_or, Some, None, Ok, Err, Option, Result, sym, refl, ap, subst, ◌∙◌, arith}
 use Rattle.std.specs.List.{list_all}
 use Rattle.std.specs.Option.{option_map}
 use Rattle.std.specs.Result.{is_ok}
@@ -7,7 +7,7 @@ use Rattle.std.proofs.lemmas.Bool.{and_parts, and_from, le-leb, leb-true, both_w
 use Rattle.std.proofs.lemmas.List.{length-drop}
 use Rattle.std.proofs.lemmas.Option.{none-some, same_Some}
 use Rattle.oid.specs.Numbers.{Number, offsets, too_large, first_at, leading_zeros, large_numbers, wrong_count, wrong_start, read_numbers}
-use Rattle.oid.specs.Refusals.{ask, fault_at}
+use Rattle.oid.specs.Refusals.{ask, fault_at, number_of}
 use Rattle.oid.specs.declared.refusal.Fault.{Fault}
 use Rattle.oid.specs.declared.refusal.Refusal.{Refusal}
 use Rattle.oid.specs.declared.refusal.Refusal.TheVariants.{NotDotted, LeadingZero, ArcTooLarge, ArcCount}
@@ -23,21 +23,27 @@ abbrev fault_or : {A : Type 0} → Fault → Result A Fault → Fault
 fault_or other (Ok found) = other
 fault_or other (Err fault) = fault
 
-module _ (bound : ℕ) where
-  abbrev Within : Option Fault → Type 0
-  Within question = (fault : Fault) → question ≡ Some fault → fault.offset ≤ bound
+-- What is so of every fault that a question may end in is so of the fault that a reading ends in.
+module _ (P : Fault → Type 0) where
+  abbrev Each : Option Fault → Type 0
+  Each question = (fault : Fault) → question ≡ Some fault → P fault
 
   abbrev Refused : {A : Type 0} → Result A Fault → Type 0
-  Refused reading = (fault : Fault) → reading ≡ Err fault → fault.offset ≤ bound
+  Refused reading = (fault : Fault) → reading ≡ Err fault → P fault
 
-  asked_within : {A : Type 0} (question : Option Fault) (others : Result A Fault) → Within question → Refused others → Refused (ask question others)
-  asked_within None others one other fault is = other fault is
-  asked_within (Some found) others one other fault is = one fault (ap (λ r. Some (fault_or found r)) is)
+  asked_each : {A : Type 0} (question : Option Fault) (others : Result A Fault) → Each question → Refused others → Refused (ask question others)
+  asked_each None others one other fault is = other fault is
+  asked_each (Some found) others one other fault is = one fault (ap (λ r. Some (fault_or found r)) is)
 
-  at_within : (refusal : Refusal) (found : Option ℕ) → ((at : ℕ) → found ≡ Some at → at ≤ bound) → Within (option_map (fault_at refusal) found)
-  at_within refusal None h fault is = absurd (none-some _ is)
-  at_within refusal (Some at) h fault is = omega (arith, h at refl, ap (λ f. f.offset) (same_Some _ _ is))
+  at_each : (refusal : Refusal) (found : Option ℕ) → ((at : ℕ) → found ≡ Some at → P (fault_at refusal at)) → Each (option_map (fault_at refusal) found)
+  at_each refusal None h fault is = absurd (none-some _ is)
+  at_each refusal (Some at) h fault is = subst P (same_Some _ _ is) (h at refl)
 
+  if_each : (v : Bool) (fault : Fault) → P fault → Each (cond v None (Some fault))
+  if_each true fault h found is = absurd (none-some _ is)
+  if_each false fault h found is = subst P (same_Some _ _ is) h
+
+module _ (bound : ℕ) where
   form_within : (text : List ℕ) (offset : ℕ) (after : Bool) → offset + length text ≤ bound
       → (at : ℕ) → faulty_from offset after text ≡ Some at → at ≤ bound
   unfolding faulty_from
@@ -88,21 +94,40 @@ module _ (bound : ℕ) where
   place_within (number ∷ numbers) all zero = leb-true number.offset bound (and_parts (leb number.offset bound) _ all).0
   place_within (number ∷ numbers) all (suc place) = place_within numbers (and_parts (leb number.offset bound) _ all).1 place
 
-  if_within : (v : Bool) (fault : Fault) → fault.offset ≤ bound → Within (cond v None (Some fault))
-  if_within true fault h found is = absurd (none-some _ is)
-  if_within false fault h found is = omega (arith, h, ap (λ f. f.offset) (same_Some _ _ is))
+  abbrev Ends : Fault → Type 0
+  Ends fault = fault.offset ≤ bound
 
-  numbers_within : (numbers : List Number) → list_all starts_within numbers ≡ true → Refused (read_numbers numbers)
+  numbers_within : (numbers : List Number) → list_all starts_within numbers ≡ true → Refused Ends (read_numbers numbers)
   unfolding read_numbers
   numbers_within numbers all =
-      asked_within (leading_zeros numbers) _ (at_within LeadingZero _ (first_within (λ number. number.padded) numbers all))
-      (asked_within (large_numbers numbers) _ (at_within ArcTooLarge _ (first_within too_large numbers all))
-      (asked_within (wrong_count (length numbers)) _ (if_within _ (fault_at ArcCount 0) (omega arith))
-      (asked_within (wrong_start numbers) _ (if_within _ _ (place_within numbers all _)) (λ fault is. absurd (both_ways true (ap is_ok is) refl)))))
+      asked_each Ends (leading_zeros numbers) _ (at_each Ends LeadingZero _ (first_within (λ number. number.padded) numbers all))
+      (asked_each Ends (large_numbers numbers) _ (at_each Ends ArcTooLarge _ (first_within too_large numbers all))
+      (asked_each Ends (wrong_count (length numbers)) _ (if_each Ends _ (fault_at ArcCount 0) (omega arith))
+      (asked_each Ends (wrong_start numbers) _ (if_each Ends _ _ (place_within numbers all _)) (λ fault is. absurd (both_ways true (ap is_ok is) refl)))))
 
-  read_within : (offset : ℕ) (text : List ℕ) → offset + length text ≤ bound → Refused (read_from offset text)
+  read_within : (offset : ℕ) (text : List ℕ) → offset + length text ≤ bound → Refused Ends (read_from offset text)
   read_within offset text h fault is =
-      asked_within (bad_form offset text) (read_numbers (numbers_from offset text)) (at_within NotDotted _ (faulty_within text offset h)) (numbers_within _ (pieces_within text offset h)) fault (sym (questions offset text) ∙ is)
+      asked_each Ends (bad_form offset text) (read_numbers (numbers_from offset text)) (at_each Ends NotDotted _ (faulty_within text offset h)) (numbers_within _ (pieces_within text offset h)) fault (sym (questions offset text) ∙ is)
+
+-- One of the first five refusals.
+abbrev pub FirstFive : Fault → Type 0
+FirstFive fault = number_of fault.refusal ≤ 5
+
+numbers_five : (numbers : List Number) → Refused FirstFive (read_numbers numbers)
+unfolding read_numbers
+numbers_five numbers =
+    asked_each FirstFive (leading_zeros numbers) _ (at_each FirstFive LeadingZero _ (λ at is. omega arith))
+    (asked_each FirstFive (large_numbers numbers) _ (at_each FirstFive ArcTooLarge _ (λ at is. omega arith))
+    (asked_each FirstFive (wrong_count (length numbers)) _ (if_each FirstFive _ (fault_at ArcCount 0) (omega arith))
+    (asked_each FirstFive (wrong_start numbers) _ (if_each FirstFive _ _ (omega arith)) (λ fault is. absurd (both_ways true (ap is_ok is) refl)))))
+
+-- the reading of a text is refused by one of these
+pub first_five : (text : List ℕ) (fault : Fault) → read_dotted text ≡ Err fault → number_of fault.refusal ≤ 5
+unfolding read_dotted
+first_five text fault is =
+    let start = prefix_length text in
+    let rest = drop start text in
+    asked_each FirstFive (bad_form start rest) (read_numbers (numbers_from start rest)) (at_each FirstFive NotDotted _ (λ at e. omega arith)) (numbers_five _) fault (sym (questions start rest) ∙ is)
 
 -- a fault's offset lies in the text, or at its end
 pub fault_within : (text : List ℕ) (fault : Fault) → read_dotted text ≡ Err fault → fault.offset ≤ length text

@@ -99,7 +99,7 @@ abbrev value_or : {A : Type 0} → A → Result A Fault → A
 value_or other (Ok value) = value
 value_or other (Err fault) = other
 
-abbrev fault_or : {A : Type 0} → Fault → Result A Fault → Fault
+abbrev pub fault_or : {A : Type 0} → Fault → Result A Fault → Fault
 fault_or other (Ok value) = other
 fault_or other (Err fault) = fault
 

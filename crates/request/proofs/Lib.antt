@@ -16,3 +16,4 @@ pub mod ReadBack
 pub mod Children
 pub mod Placing
 pub mod Worked
+pub mod Refused

@@ -1,5 +1,5 @@
 -- Refusals of request lines: the number and the letter of each, and the faults that lines are answered with.
-use Rattle.std.specs.Prelude.{ℕ, Bool, true, false, Some, None, Ok, Err, Option, Result}
+use Rattle.std.specs.Prelude.{ℕ, Bool, true, false, nat_le, Some, None, Ok, Err, Option, Result}
 use Rattle.oid.specs.Refusals as oid
 use Rattle.book.specs.Refusals as book
 use Rattle.request.specs.declared.refusal.LineRefusal.{LineRefusal}
@@ -32,6 +32,12 @@ abbrev pub letter_of : Refusal → ℕ
 letter_of (Line refusal) = 76
 letter_of (Identifier refusal) = 67
 letter_of (Book refusal) = 82
+
+-- the refusals that the reading of a line can end in: of its text, or 1 to 5 of its identifier's
+abbrev pub is_of_text : Refusal → Bool
+is_of_text (Line refusal) = true
+is_of_text (Identifier refusal) = nat_le (oid.number_of refusal) 5
+is_of_text (Book refusal) = false
 
 -- a refusal, with the offset in the line where it was found
 abbrev pub fault_at : Refusal → ℕ → Fault

@@ -1,5 +1,5 @@
 // The reader of request lines.
-ghost use Rattle.std.specs.Prelude.{◌≡◌, ◌+◌, ◌<◌, ◌^◌, length};
+ghost use Rattle.std.specs.Prelude.{◌≡◌, true, IfErr, ◌+◌, ◌<◌, ◌^◌, length};
 ghost use Rattle.std.specs.Option.{option_and_then};
 ghost use Rattle.std.specs.Result.{result_ok, result_map_both};
 ghost use Rattle.oid.specs.Meaning.{arcs_of};
@@ -7,6 +7,7 @@ ghost use Rattle.book.specs.Calls.{place_of};
 ghost use Rattle.request.specs.Lines.{ReadsExactly};
 ghost use Rattle.request.specs.Parts.{part_of};
 ghost use Rattle.request.specs.Reading.{identifier_in, call_by, read_line, place_of_line};
+ghost use Rattle.request.specs.Refusals.{is_of_text};
 ghost use Rattle.request.specs.Requests.{call_of_request, read_as};
 
 use crate::fields::Fields;
@@ -23,6 +24,7 @@ use oid::Identifier;
 pub fn read(line: &[u8]) -> Result<Reading, Fault>
     ensures value { read_as result ≡ read_line line.now }
     ensures exactly { ReadsExactly line.now (read_as result) }
+    ensures refused { IfErr result (λ fault. is_of_text fault.refusal ≡ true) }
     ensures place { place_of_line line.now ≡ option_and_then (λ reading. place_of (call_of_request reading.request)) (result_ok result) }
 {
     if !is_line(line) {

@@ -12,6 +12,7 @@ use Rattle.request.specs.Verbs.{verb_of}
 use Rattle.request.specs.declared.refusal.Fault.{Fault}
 use Rattle.request.proofs.Asking.{no_fields, no_numbers, no_identifier, all_read, unmapped, unmapped_none, unmapped_ok, unmapped_err, call_three, fields_found, identifier_within}
 use Rattle.request.proofs.Asked.{reads_exactly}
+use Rattle.request.proofs.Refused.{answer_refused}
 use Rattle.request.proofs.Placing.{place_read}
 use Rattle.request.proofs.reader.read.Goals as goal
 use Rattle.request.proofs.reader.read.Goals.{In-Some-of}
@@ -37,7 +38,7 @@ pub returns-in_default-of : goal.returns-in_default-of
 returns-in_default-of c =
     let value : result_map_both reading_of (λ fault. fault) (Err c.at-in_default-of.result) ≡ read_line c.args.line.now =
     ap Err c.at-in_default-of.ensures ∙ sym (no_fields c.args.line.now (sym c.is_line.ensures ∙ c.if-not-is_line.false) c.in-Some.verb (ap verb_of (sym c.first_piece-word.ensures) ∙ sym c.in-Some.ensures) (unmapped_none split _ (sym (fields_found c.in-Some.verb c.args.line.now c.first_piece-word.result.now _ c.first_piece-word.ensures c.in_default-of.ensures)))) in
-    record { value = value; exactly = reads_exactly c.args.line.now _ value; place = place_read c.args.line.now (Err c.at-in_default-of.result) value }
+    record { value = value; exactly = reads_exactly c.args.line.now _ value; refused = answer_refused c.args.line.now (Err c.at-in_default-of.result) value; place = place_read c.args.line.now (Err c.at-in_default-of.result) value }
 
 pub returns-in_err-numbers : goal.returns-in_err-numbers
 returns-in_err-numbers c =
@@ -48,7 +49,7 @@ returns-in_err-numbers c =
     let found = c.from_residual.result in
     let value : result_map_both reading_of (λ fault. fault) found ≡ read_line c.args.line.now =
     ap (result_map_both reading_of (λ fault. fault)) (p.1 ∙ ap Err p.2) ∙ sym (no_numbers c.args.line.now (sized s) c.in-Some.verb (verb_is s) f.0 f.1 _ no) in
-    record { value = value; exactly = reads_exactly c.args.line.now _ value; place = place_read c.args.line.now found value }
+    record { value = value; exactly = reads_exactly c.args.line.now _ value; refused = answer_refused c.args.line.now found value; place = place_read c.args.line.now found value }
 
 -- the part of the identifier's field
 place_is : (s : In-Some-of) (place : Part) → place ≡ (field_of s.in-Some-of.fields.identifier).part → identifier_part (found s).0 ≡ place
@@ -72,7 +73,7 @@ returns-in_err-identifier c =
     let found = c.from_residual-in_err-identifier.result in
     let value : result_map_both reading_of (λ fault. fault) found ≡ read_line c.args.line.now =
     ap (result_map_both reading_of (λ fault. fault)) (p.1 ∙ ap Err p.2) ∙ sym (no_identifier c.args.line.now (sized s) c.in-Some.verb (verb_is s) f.0 f.1 n.0 n.1 _ no) in
-    record { value = value; exactly = reads_exactly c.args.line.now _ value; place = place_read c.args.line.now found value }
+    record { value = value; exactly = reads_exactly c.args.line.now _ value; refused = answer_refused c.args.line.now found value; place = place_read c.args.line.now found value }
 
 pub returns : goal.returns
 returns c =
@@ -86,4 +87,4 @@ returns c =
     let found = Ok (record { request = c.request.result; offset = c.part-part.result.offset }) in
     let value : result_map_both reading_of (λ fault. fault) found ≡ read_line c.args.line.now =
     (λ k. Ok (record { call = call k; offset = (sym same k).offset })) ∙ sym (all_read c.args.line.now (sized s) c.in-Some.verb (verb_is s) f.0 f.1 n.0 n.1 arcs yes) in
-    record { value = value; exactly = reads_exactly c.args.line.now _ value; place = place_read c.args.line.now found value }
+    record { value = value; exactly = reads_exactly c.args.line.now _ value; refused = answer_refused c.args.line.now found value; place = place_read c.args.line.now found value }
