@@ -17,7 +17,7 @@ pub(crate) struct Part<'a> {
 }
 
 // The parts of a line from a place on. Behind the last one the place lies past the line's end.
-#[derive(Clone, Copy)]
+#[derive(Drop)]
 pub(crate) struct Parts<'a> {
     pub(crate) line: &'a [u8],
     pub(crate) place: usize,
