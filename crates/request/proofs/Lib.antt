@@ -17,3 +17,4 @@ pub mod Children
 pub mod Placing
 pub mod Worked
 pub mod Refused
+pub mod Rolled

@@ -9,6 +9,7 @@ pub mod Answers
 pub mod Words
 pub mod Written
 pub mod Fitting
+pub mod Rolls
 pub mod ReadBack
 pub mod Example
 pub mod Parts

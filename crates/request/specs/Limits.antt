@@ -7,7 +7,7 @@ least_page = 256
 
 -- 9. Has the page at least 256 bytes?
 abbrev pub has_room : ℕ → Bool
-has_room page = nat_le least_page page
+has_room page_length = nat_le least_page page_length
 
 -- the fewest and the most bytes of a line
 abbrev pub least_line : ℕ

@@ -1,11 +1,11 @@
 // The fields of a line, and the numbers in them.
 ghost use Rattle.std.specs.Prelude.{◌≡◌, drop};
-ghost use Rattle.std.specs.Option.{option_map};
+ghost use Rattle.std.specs.Option.{option_map, ForSome};
 ghost use Rattle.std.specs.Result.{result_map_both};
 ghost use Rattle.request.specs.Fields.{in_form};
 ghost use Rattle.request.specs.Parts.{parts_left, field_of, split, split_of, more_of, number_fields_of, two, three};
 ghost use Rattle.request.specs.Reading.{numbers_in, number_at};
-ghost use Rattle.request.specs.Verbs.{form_of};
+ghost use Rattle.request.specs.Verbs.{an_identifier, form_of};
 
 use crate::field::Field;
 use crate::part::Parts;
@@ -31,7 +31,8 @@ pub(crate) enum More<'a> {
 impl<'a> Fields<'a> {
     // The parts as the fields of a verb; none where they are not as many as the verb's, or one is empty.
     pub(crate) fn of(verb: Verb, mut parts: Parts<'a>) -> Option<Fields<'a>>
-        ensures { option_map split_of result ≡ option_map split (in_form (form_of verb) (parts_left parts.entry)) }
+        ensures value { option_map split_of result ≡ option_map split (in_form (form_of verb) (parts_left parts.entry)) }
+        ensures identifier { ForSome result (λ fields. (field_of fields.identifier).sort ≡ an_identifier) }
     {
         let caller = parts.filled()?;
         let identifier = parts.filled()?;

@@ -2,6 +2,7 @@
 ghost use Rattle.request.specs.Example.{WorkedLines};
 ghost use Rattle.request.specs.Fitting.{LinesFit, RollsFit};
 ghost use Rattle.request.specs.Lines.{EqualButPrefix};
+ghost use Rattle.request.specs.Rolls.{RollsAreLines};
 ghost use Rattle.request.specs.ReadBack.{IdentifiersReadBack, ChildLinesApart};
 
 // Two lines that are read as one call are equal but for their identifiers' prefix.
@@ -32,4 +33,9 @@ pub fn rolls_fit()
 // The lines of a worked example make its calls, and what is written for them is as the rules say; and so it is at the edges.
 pub fn worked_lines()
     ensures { WorkedLines }
+{}
+
+// A roll has the lines of its first children, as many as leave 16 bytes of the page behind each, and the line that ends it.
+pub fn rolls_are_lines()
+    ensures { RollsAreLines }
 {}

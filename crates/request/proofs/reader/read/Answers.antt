@@ -28,7 +28,7 @@ module _ (c : In-Some-of) where
   -- its fields are those that were found
   found : (list : List Field) × (fields_in c.in-Some.verb c.args.line.now ≡ Some list) × (split list ≡ split_of c.in-Some-of.fields)
   found =
-      unmapped split _ (split_of c.in-Some-of.fields) (fields_found c.in-Some.verb c.args.line.now c.first_piece-word.result.now _ c.first_piece-word.ensures c.in-Some-of.ensures)
+      unmapped split _ (split_of c.in-Some-of.fields) (fields_found c.in-Some.verb c.args.line.now c.first_piece-word.result.now _ c.first_piece-word.ensures c.in-Some-of.ensures.value)
 
   numbers_are : (answer : Result (List ℕ) Fault) → answer ≡ result_map_both three (λ fault. fault) (numbers_in (number_fields_of c.in-Some-of.fields))
       → answer ≡ result_map_both three (λ fault. fault) (numbers_in (number_fields found.0))
@@ -37,7 +37,7 @@ module _ (c : In-Some-of) where
 pub returns-in_default-of : goal.returns-in_default-of
 returns-in_default-of c =
     let value : result_map_both reading_of (λ fault. fault) (Err c.at-in_default-of.result) ≡ read_line c.args.line.now =
-    ap Err c.at-in_default-of.ensures ∙ sym (no_fields c.args.line.now (sym c.is_line.ensures ∙ c.if-not-is_line.false) c.in-Some.verb (ap verb_of (sym c.first_piece-word.ensures) ∙ sym c.in-Some.ensures) (unmapped_none split _ (sym (fields_found c.in-Some.verb c.args.line.now c.first_piece-word.result.now _ c.first_piece-word.ensures c.in_default-of.ensures)))) in
+    ap Err c.at-in_default-of.ensures ∙ sym (no_fields c.args.line.now (sym c.is_line.ensures ∙ c.if-not-is_line.false) c.in-Some.verb (ap verb_of (sym c.first_piece-word.ensures) ∙ sym c.in-Some.ensures) (unmapped_none split _ (sym (fields_found c.in-Some.verb c.args.line.now c.first_piece-word.result.now _ c.first_piece-word.ensures c.in_default-of.ensures.value)))) in
     record { value = value; exactly = reads_exactly c.args.line.now _ value; refused = answer_refused c.args.line.now (Err c.at-in_default-of.result) value; place = place_read c.args.line.now (Err c.at-in_default-of.result) value }
 
 pub returns-in_err-numbers : goal.returns-in_err-numbers
