@@ -13,7 +13,7 @@ use Rattle.book.specs.declared.kind.Kind.{Kind}
 use Rattle.book.specs.declared.kind.Kind.TheVariants.{Panel, Retired, Offered, InHand, Open, Declined}
 use Rattle.request.specs.Answers.{kind_word, shown_words, child_line, last_line, text_line}
 use Rattle.request.specs.Fields.{space}
-use Rattle.request.specs.ReadBack.{first_words, HasNumbers, ShownAlike, ChildLinesApart}
+use Rattle.request.specs.ReadBack.{first_words, Within64Bits, ShownAlike, ChildLinesApart}
 use Rattle.request.specs.declared.child.Child.{Child}
 use Rattle.request.proofs.Lined.{lined}
 use Rattle.request.proofs.Spelled.{visible, decimal_visible}
@@ -44,7 +44,7 @@ same_kind : (one other : Kind) → kind_word one ≡ kind_word other → one ≡
 same_kind one other is = same_Some _ _ (sym (kind_found one) ∙ ap kind_of is ∙ kind_found other)
 
 -- the words of a child's line
-child_words : (child : Child) → HasNumbers child → first_words (child_line child) ≡ decimal child.arc ∷ shown_words child
+child_words : (child : Child) → Within64Bits child → first_words (child_line child) ≡ decimal child.arc ∷ shown_words child
 child_words child f =
     ap first_words (sym (append-nil (child_line child)))
     ∙ lined (decimal child.arc) (shown_words child) []
@@ -70,7 +70,7 @@ same_first : (word other : List ℕ) (words others : List (List ℕ)) → word �
 same_first word other words others is = (cc, cc)
 
 -- children with the same words are shown alike
-alike : (one other : Child) → HasNumbers one → HasNumbers other → decimal one.arc ∷ shown_words one ≡ decimal other.arc ∷ shown_words other → ShownAlike one other
+alike : (one other : Child) → Within64Bits one → Within64Bits other → decimal one.arc ∷ shown_words one ≡ decimal other.arc ∷ shown_words other → ShownAlike one other
 alike one other f g is = record {
   arc = decimal_injective one.arc other.arc f.arc g.arc arcs.0;
   kind = same;

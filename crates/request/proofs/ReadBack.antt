@@ -7,12 +7,11 @@ use Rattle.oid.specs.Pages.{at_front}
 use Rattle.oid.specs.Tree.{is_identifier}
 use Rattle.oid.specs.declared.identifier.Identifier as code_identifier
 use Rattle.dotted.specs.Writing.{dotted_text}
-use Rattle.dotted.proofs.Spelling.{value_of}
 use Rattle.dotted.proofs.Theorems.{reads_back}
 use Rattle.book.specs.Rulings.{refused, named, listed, collected}
 use Rattle.book.specs.Runs.{unread, by_call}
 use Rattle.request.specs.Answers.{ok_line, no_line, first_line, child_of, roll_lines, fault_line, offset_in}
-use Rattle.request.specs.ReadBack.{first_words, identifier_by, identifier_read, no_by, no_read, told_of, ReadsBack, IdentifiersReadBack}
+use Rattle.request.specs.ReadBack.{first_words, identifier_by, identifier_read, no_with, no_by, no_read, told_of, ReadsBack, IdentifiersReadBack}
 use Rattle.request.specs.Reading.{Reading, read_line}
 use Rattle.request.specs.Refusals.{number_of, letter_of, fault_at}
 use Rattle.request.specs.declared.refusal.Fault.{Fault}
@@ -20,7 +19,7 @@ use Rattle.request.specs.declared.refusal.Refusal.{Refusal}
 use Rattle.request.specs.declared.refusal.Refusal.TheVariants.{Line, Identifier, Book}
 use Rattle.request.proofs.Fitting.{two_digits}
 use Rattle.request.proofs.Lined.{next_word, lined}
-use Rattle.request.proofs.Spelled.{visible, decimal_visible, identifier_visible}
+use Rattle.request.proofs.Spelled.{visible, decimal_visible, identifier_visible, numeral_read}
 
 -- the words of an `ok` line
 ok_words : (arcs bytes : List ℕ) → is_identifier arcs ≡ true → first_words (ok_line arcs ++ bytes) ≡ codes "ok" ∷ dotted_text arcs ∷ []
@@ -51,7 +50,7 @@ no_told fault bytes h =
     and_from (visible (decimal number)) _ (decimal_visible number small)
     (and_from (visible (letter ∷ [])) _ (letter_visible fault.refusal) (and_from (visible (decimal fault.offset)) _ (decimal_visible fault.offset h) refl)) in
     ap no_by (lined (codes "no") (decimal number ∷ (letter ∷ []) ∷ decimal fault.offset ∷ []) bytes each)
-    ∙ (λ k. Some (record { number = value_of number small k; letter = letter; offset = value_of fault.offset h k }))
+    ∙ (λ k. no_with (numeral_read number small k) letter (numeral_read fault.offset h k))
 
 -- no identifier is read from words of which the first is `no`
 no_identifier : (others : List (List ℕ)) → identifier_by (codes "no" ∷ others) ≡ None

@@ -146,17 +146,20 @@ pub range_fits : (sort : Sort) (number : ℕ) → in_range sort number ≡ true 
 range_fits sort number h =
     ⊎_elim (λ above. absurd (both_ways (in_range sort number) (large sort number above) h)) (λ within. omega (arith, limit_room, within)) (cases_lt arc_limit number)
 
--- it is read from its decimal text, in a field of the sort
-pub number_read : (sort : Sort) (offset number : ℕ) → in_range sort number ≡ true
-    → number_in (field sort (part offset (decimal number))) ≡ Some number
-number_read sort offset number h =
-    let fits = range_fits sort number h in
+-- a number of 64 bits is read from its decimal text
+pub numeral_read : (number : ℕ) → number < 2 ^ 64 → numeral (decimal number) ≡ Some number
+numeral_read number fits =
     let some = lt-ltb 0 (length (decimal number)) (decimal_nonempty number fits) in
     let plain = not_from_false (leading_zero (decimal number)) (unpadded_of number fits) in
     let good : is_numeral (decimal number) ≡ true =
     and_from (ltb 0 (length (decimal number))) _ some (and_from (all_ascii_digits (decimal number)) _ (digits_of number fits) plain) in
-    let read : numeral (decimal number) ≡ Some number = cond-true (is_numeral (decimal number)) _ None good ∙ ap Some (value_of number fits) in
-    ap (option_and_then (λ n. cond (in_range sort n) (Some n) None)) read ∙ cond-true (in_range sort number) _ None h
+    cond-true (is_numeral (decimal number)) _ None good ∙ ap Some (value_of number fits)
+
+-- so is one in the range of its sort, in a field of the sort
+pub number_read : (sort : Sort) (offset number : ℕ) → in_range sort number ≡ true
+    → number_in (field sort (part offset (decimal number))) ≡ Some number
+number_read sort offset number h =
+    ap (option_and_then (λ n. cond (in_range sort n) (Some n) None)) (numeral_read number (range_fits sort number h)) ∙ cond-true (in_range sort number) _ None h
 
 -- and a field that is read as a number has the number's decimal text
 pub number_written : (f : Field) (number : ℕ) → number_in f ≡ Some number

@@ -20,5 +20,5 @@ pub record LinesFit : Type 0 where
 
 -- A roll fits on each page that is long enough for answers.
 abbrev pub RollsFit : Type 0
-RollsFit = (page : ℕ) (arcs : List ℕ) (children : List Child) → has_room page ≡ true → is_identifier arcs ≡ true
-    → list_all (λ child. is_arc child.arc) children ≡ true → length (roll_bytes page arcs children) ≤ page
+RollsFit = (page_length : ℕ) (arcs : List ℕ) (children : List Child) → has_room page_length ≡ true → is_identifier arcs ≡ true
+    → list_all (λ child. is_arc child.arc) children ≡ true → length (roll_bytes page_length arcs children) ≤ page_length

@@ -1,5 +1,5 @@
 -- What can be read off an answer's bytes.
-use Rattle.std.specs.Prelude.{ℕ, ◌≡◌, ◌≢◌, ◌<◌, ◌^◌, true, cond, List, [], ◌∷◌, slice_index, Some, None, Ok, Err, Option, Result, ◌==◌, codes}
+use Rattle.std.specs.Prelude.{ℕ, ◌≡◌, ◌≢◌, ◌<◌, ◌^◌, true, cond, List, [], ◌∷◌, Some, None, Ok, Err, Option, Result, ◌==◌, codes}
 use Rattle.std.specs.Cmp.Lexicographic.{pointwise}
 use Rattle.std.specs.List.{before_first}
 use Rattle.std.specs.Option.{ForSome}
@@ -7,12 +7,11 @@ use Rattle.std.specs.Result.{result_ok}
 use Rattle.oid.specs.Meaning.{arcs_of}
 use Rattle.oid.specs.Tree.{is_identifier}
 use Rattle.oid.specs.declared.identifier.Identifier.{Identifier}
-use Rattle.dotted.specs.Pieces.{decimal_value}
 use Rattle.dotted.specs.Reading.{read_dotted}
 use Rattle.book.specs.Kinds.{is_authority}
 use Rattle.book.specs.Runs.{LineAnswer, identifier_in}
 use Rattle.request.specs.Refusals.{number_of, letter_of}
-use Rattle.request.specs.Fields.{words}
+use Rattle.request.specs.Fields.{words, numeral}
 use Rattle.request.specs.Answers.{feed, child_line, last_line, answer_bytes}
 use Rattle.request.specs.declared.child.Child.{Child}
 use Rattle.request.specs.declared.refusal.Fault.{Fault}
@@ -35,10 +34,14 @@ pub record No : Type 0 where
   pub letter : ℕ
   pub offset : ℕ
 
+-- A number, a letter and an offset, if both numbers are written as numbers are.
+abbrev pub no_with : Option ℕ → ℕ → Option ℕ → Option No
+no_with (Some number) letter (Some offset) = Some (record { number = number; letter = letter; offset = offset })
+no_with number letter offset = None
+
 -- The number, the letter and the offset in a `no` line, if such a line comes first.
 abbrev pub no_by : List (List ℕ) → Option No
-no_by (word ∷ number ∷ letter ∷ offset ∷ []) =
-    cond (pointwise ◌==◌ (codes "no") word) (Some (record { number = decimal_value number; letter = slice_index letter 0; offset = decimal_value offset })) None
+no_by (word ∷ number ∷ (letter ∷ []) ∷ offset ∷ []) = cond (pointwise ◌==◌ (codes "no") word) (no_with (numeral number) letter (numeral offset)) None
 no_by words = None
 
 abbrev pub no_read : List ℕ → Option No
@@ -55,12 +58,12 @@ ReadsBack (Err fault) page = (identifier_read page ≡ None) × (no_read page �
 
 -- From what is written for a line, of whatever answer, can be read back the identifier that the answer has.
 abbrev pub IdentifiersReadBack : Type 0
-IdentifiersReadBack = (line : List ℕ) (page : ℕ) (answer : LineAnswer)
+IdentifiersReadBack = (line : List ℕ) (page_length : ℕ) (answer : LineAnswer)
     → ForSome (identifier_in answer) (λ identifier. is_identifier identifier ≡ true)
-    → identifier_read (answer_bytes line page answer) ≡ identifier_in answer
+    → identifier_read (answer_bytes line page_length answer) ≡ identifier_in answer
 
 -- A child's numbers have no more than 64 bits.
-pub record HasNumbers (child : Child) : Type 0 where
+pub record Within64Bits (child : Child) : Type 0 where
   pub arc : child.arc < 2 ^ 64
   pub holder : child.holder < 2 ^ 64
   pub quota : child.quota < 2 ^ 64
@@ -74,5 +77,5 @@ pub record ShownAlike (one other : Child) : Type 0 where
 
 -- Two lines of children that are equal are of children that a roll shows alike; and no such line ends a roll.
 pub record ChildLinesApart : Type 0 where
-  pub alike : (one other : Child) → HasNumbers one → HasNumbers other → child_line one ≡ child_line other → ShownAlike one other
-  pub no_last : (child : Child) (next : Option ℕ) → HasNumbers child → child_line child ≢ last_line next
+  pub alike : (one other : Child) → Within64Bits one → Within64Bits other → child_line one ≡ child_line other → ShownAlike one other
+  pub no_last : (child : Child) (next : Option ℕ) → Within64Bits child → child_line child ≢ last_line next

@@ -2,8 +2,8 @@
 ghost use Rattle.request.specs.Example.{WorkedLines};
 ghost use Rattle.request.specs.Fitting.{LinesFit, RollsFit};
 ghost use Rattle.request.specs.Lines.{EqualButPrefix};
-ghost use Rattle.request.specs.Rolls.{RollsAreLines};
 ghost use Rattle.request.specs.ReadBack.{IdentifiersReadBack, ChildLinesApart};
+ghost use Rattle.request.specs.Rolls.{RollsAreLines};
 
 // Two lines that are read as one call are equal but for their identifiers' prefix.
 pub fn equal_but_prefix()

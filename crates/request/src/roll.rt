@@ -11,7 +11,7 @@ use oid::{Arc, fits};
 
 impl Written {
     // Puts a child's line behind what is written, if so much of the page remains after it that a roll can end there, and answers whether it
-    // did. The line is there whole, or nothing of it is counted.
+    // did. The line is there whole, or nothing of it is counted, and the page may have other bytes behind what is.
     pub fn put_child(&mut self, page: &mut [u8], child: &Child) -> bool
         ensures { PutsLine (child_line child.now) least_rest self.old.length page.old result self.new.length page.new }
     {
