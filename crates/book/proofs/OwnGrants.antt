@@ -20,7 +20,7 @@ use Rattle.book.specs.Grants.{answer_spent, DoesAs, OwnGrants}
 use Rattle.book.proofs.Identifiers.{same_true}
 
 -- the book with the kind of T's entry changed is the book with the first row of T written anew
-turned_in_row : (t : List ℕ) (kind : Kind) (book : Book) (row : ℕ) (entry : Entry) → slice_get book row ≡ Some entry
+pub turned_in_row : (t : List ℕ) (kind : Kind) (book : Book) (row : ℕ) (entry : Entry) → slice_get book row ≡ Some entry
     → ((above : ℕ) → above < row → is_at t (get_or book above entry) ≡ false) → is_at t entry ≡ true
     → slice_set book row (record entry { kind = kind }) ≡ turned t kind book
 unfolding turned
@@ -33,7 +33,7 @@ turned_in_row t kind (first ∷ book) (suc row) entry there others here =
     ∙ sym (cond-false (is_at t first) _ _ (others 0 (omega arith)))
 
 -- what is found for T is in the first row of T
-found_in_row : (t : List ℕ) (book : Book) (row : ℕ) → position (is_at t) book ≡ Some row → found t book ≡ slice_get book row
+pub found_in_row : (t : List ℕ) (book : Book) (row : ℕ) → position (is_at t) book ≡ Some row → found t book ≡ slice_get book row
 unfolding found
 found_in_row t book row h = find_at (is_at t) book ∙ ap (slice_get book) (cond_some _ _ row h).1
 

@@ -34,14 +34,19 @@ position_in_book test rows =
 
 -- and so what is found in a book is the entry of that row
 module _ (identifier : List ℕ) (rows : List Row) where
+  pub row_in_table : (place : ℕ) (row : Row) → position (is_at identifier) (book_in rows) ≡ Some place → get_or rows place row ≡ row
+      → slice_get (book_in rows) place ≡ Some (entry_of row)
+  row_in_table place row first is =
+      let first = cond_some _ _ place first in
+      let within = subst (λ n. n < length (book_in rows)) first.1 (ltb-true _ _ first.0) in
+      slice_get-map entry_of rows place
+      ∙ ap (option_map entry_of) (slice_get-get_or rows place row (omega (arith, within, length-map rows entry_of)) ∙ ap Some is)
+
   pub found_in_table : (place : ℕ) (row : Row) → position (is_at identifier) (book_in rows) ≡ Some place → get_or rows place row ≡ row
       → found identifier (book_in rows) ≡ Some (entry_of row)
   unfolding found
   found_in_table place row first is =
-      let first = cond_some _ _ place first in
-      let within = subst (λ n. n < length (book_in rows)) first.1 (ltb-true _ _ first.0) in
-      find_at (is_at identifier) (book_in rows) ∙ ap (slice_get (book_in rows)) first.1 ∙ slice_get-map entry_of rows place
-      ∙ ap (option_map entry_of) (slice_get-get_or rows place row (omega (arith, within, length-map rows entry_of)) ∙ ap Some is)
+      find_at (is_at identifier) (book_in rows) ∙ ap (slice_get (book_in rows)) (cond_some _ _ place first).1 ∙ row_in_table place row first is
 
   pub not_in_table : position (is_at identifier) (book_in rows) ≡ None → found identifier (book_in rows) ≡ None
   unfolding found

@@ -5,6 +5,7 @@
 pub mod founding;
 pub mod register;
 mod row;
+mod standing;
 #[cfg(test)]
 mod tests;
 

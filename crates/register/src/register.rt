@@ -4,13 +4,16 @@ ghost use Rattle.std.specs.Option.{ForSome, ForNone};
 ghost use Rattle.std.specs.Vec.{vec_capacity};
 ghost use Rattle.book.specs.Book.{most_entries};
 
+mod asking;
 mod changing;
 mod finding;
 mod free;
+mod giving;
 mod left;
 mod making;
 mod order;
 mod telling;
+mod turning;
 
 use crate::row::Row;
 use book::FoundingRefusal;

@@ -2,10 +2,12 @@
 ghost use Rattle.std.specs.Prelude.{◌≡◌};
 ghost use Rattle.oid.specs.Meaning.{arcs_of};
 ghost use Rattle.book.specs.Book.{children};
-ghost use Rattle.book.specs.Left.{used, told_left};
+ghost use Rattle.book.specs.Left.{left, used, told_left};
+ghost use Rattle.register.specs.Kept.{entry_of};
 ghost use Rattle.register.specs.Registers.{book_of};
 
 use super::Register;
+use crate::row::Row;
 use book::Refusal;
 use oid::Identifier;
 
@@ -20,7 +22,14 @@ impl<P, A> Register<P, A> {
         if !row.kind.is_authority() {
             return Err(Refusal::WrongKind);
         }
-        Ok(u64::from(row.quota).saturating_sub(self.used_below(identifier)))
+        Ok(self.left_of(&row))
+    }
+
+    // What the authority in a row has left.
+    pub(crate) fn left_of(&self, row: &Row) -> u64
+        ensures { result ≡ left (entry_of row.now) (book_of self.now) }
+    {
+        u64::from(row.quota).saturating_sub(self.used_below(&row.identifier))
     }
 
     // What the children of an authority have used up of its quota.
