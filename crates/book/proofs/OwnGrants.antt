@@ -33,7 +33,7 @@ turned_in_row t kind (first ∷ book) (suc row) entry there others here =
     ∙ sym (cond-false (is_at t first) _ _ (others 0 (omega arith)))
 
 -- what is found for T is in the first row of T
-found_in_row : (t : List ℕ) (book : Book) (row : ℕ) → position (is_at t) book ≡ Some row → found t book ≡ slice_get book row
+pub found_in_row : (t : List ℕ) (book : Book) (row : ℕ) → position (is_at t) book ≡ Some row → found t book ≡ slice_get book row
 unfolding found
 found_in_row t book row h = find_at (is_at t) book ∙ ap (slice_get book) (cond_some _ _ row h).1
 
