@@ -14,7 +14,7 @@ use Rattle.book.specs.Rulings.{Ruling, refuses, enters, turns, tells, book_after
 use Rattle.book.specs.Questions.{Rules, ruling, after, after_all}
 use Rattle.book.specs.Ranges.{most_quota}
 use Rattle.book.specs.Founding.{Founding, founding_refusal, root_entry, book_unless, founded}
-use Rattle.book.specs.Runs.{Sent, Back, Lines, made_by, back_at, after_made, Exchange, Serves, Runs, book_at_end}
+use Rattle.book.specs.Runs.{Sent, Back, Lines, Recovers, made_by, back_at, after_made, Exchange, Serves, Runs, book_at_end}
 use Rattle.book.specs.Given.{Gift, gift_in, decline_in, gifts, declines}
 use Rattle.book.specs.Law.{ByRule}
 use Rattle.book.proofs.Room.{RoomAlong}
@@ -51,14 +51,14 @@ module _ (founding : Founding) (rules : Rules) (book : Book) (before : List Gift
       sound_at founding refl (sym (append-nil before)) refl (turns_sound founding book before declined sound call t kind answer says)
 
   -- an exchange keeps all of it
-  exchange_sound : (lines : Lines) (exchange : Exchange) → Serves lines rules book exchange
+  exchange_sound : (lines : Lines) → Recovers lines → (exchange : Exchange) → Serves lines rules book exchange
       → Sound founding exchange.book (before ++ cons_option (gift_in lines exchange.sent exchange.back) [])
       (declined ++ cons_option (decline_in lines exchange.sent exchange.back) [])
-  exchange_sound lines exchange served =
+  exchange_sound lines recovers exchange served =
       let same = ap (λ back. before ++ cons_option (gift_in lines exchange.sent back) []) served.answered in
       let ends = ap (λ back. declined ++ cons_option (decline_in lines exchange.sent back) []) served.answered in
       sound_at founding (sym served.leaves) (sym same) (sym ends)
-      (go (made_by lines exchange.sent) (back_at lines rules book exchange.sent) (sent_tells rules book sound.identified lines exchange.sent))
+      (go (made_by lines exchange.sent) (back_at lines rules book exchange.sent) (sent_tells rules book sound.identified lines recovers exchange.sent))
     where
       go : (made : Option Call) (back : Back) → Tells rules book sound.identified lines exchange.sent made back
           → Sound founding (after_made rules book made) (before ++ cons_option (gift_in lines exchange.sent back) [])
@@ -74,7 +74,7 @@ cons_option_between : {X : Type 0} (xs : List X) (o : Option X) (ys : List X) �
 cons_option_between xs None ys = ap (λ zs. zs ++ ys) (append-nil xs)
 cons_option_between xs (Some x) ys = append_assoc xs (x ∷ []) ys
 
-module _ (founding : Founding) (rules : Rules) (lines : Lines) where
+module _ (founding : Founding) (rules : Rules) (lines : Lines) (recovers : Recovers lines) where
   -- what holds of the book at the start holds of it at the end, with all that the run gave and declined
   pub run_sound : (book : Book) (before : List Gift) (declined : List (List ℕ)) (run : List Exchange)
       → Sound founding book before declined → Runs lines rules book run
@@ -82,7 +82,7 @@ module _ (founding : Founding) (rules : Rules) (lines : Lines) where
   run_sound book before declined [] sound runs = sound_at founding refl (sym (append-nil before)) (sym (append-nil declined)) sound
   run_sound book before declined (exchange ∷ run) sound runs =
       sound_at founding refl (cons_option_between before _ (gifts lines run)) (cons_option_between declined _ (declines lines run))
-      (run_sound exchange.book _ _ run (exchange_sound founding rules book before declined sound lines exchange runs.0) runs.1)
+      (run_sound exchange.book _ _ run (exchange_sound founding rules book before declined sound lines recovers exchange runs.0) runs.1)
 
   -- every book has room where somebody has 1 left
   pub run_room : founding.quota ≤ most_quota → (book : Book) (before : List Gift) (declined : List (List ℕ)) (run : List Exchange)
@@ -90,7 +90,7 @@ module _ (founding : Founding) (rules : Rules) (lines : Lines) where
   run_room quota book before declined [] sound runs = makes_room founding book before declined sound quota
   run_room quota book before declined (exchange ∷ run) sound runs = (
     makes_room founding book before declined sound quota,
-    run_room quota exchange.book _ _ run (exchange_sound founding rules book before declined sound lines exchange runs.0) runs.1,
+    run_room quota exchange.book _ _ run (exchange_sound founding rules book before declined sound lines recovers exchange runs.0) runs.1,
   )
 
   -- what an exchange gives it gives by the rules
@@ -108,7 +108,7 @@ module _ (founding : Founding) (rules : Rules) (lines : Lines) where
 
   given_by_rule : (book : Book) (before : List Gift) (declined : List (List ℕ)) → Sound founding book before declined
       → (sent : Sent) (gift : Gift) → gift_in lines sent (back_at lines rules book sent) ≡ Some gift → ByRule rules gift
-  given_by_rule book before declined sound sent gift e = go (made_by lines sent) (sent_tells rules book sound.identified lines sent)
+  given_by_rule book before declined sound sent gift e = go (made_by lines sent) (sent_tells rules book sound.identified lines recovers sent)
     where
       go : (made : Option Call) → Tells rules book sound.identified lines sent made (back_at lines rules book sent) → ByRule rules gift
       go None both = absurd (none-some gift (sym both.0 ∙ e))
@@ -125,7 +125,7 @@ module _ (founding : Founding) (rules : Rules) (lines : Lines) where
   run_by_rule book before declined (exchange ∷ run) sound runs =
       cons_option_all (ByRule rules) _ (gifts lines run)
       (λ gift e. given_by_rule book before declined sound exchange.sent gift (sym (ap (gift_in lines exchange.sent) runs.0.answered) ∙ e))
-      (run_by_rule exchange.book _ _ run (exchange_sound founding rules book before declined sound lines exchange runs.0) runs.1)
+      (run_by_rule exchange.book _ _ run (exchange_sound founding rules book before declined sound lines recovers exchange runs.0) runs.1)
 
 -- some list of gifts, and one of what was declined, go with a book of which all holds
 pub record Holds (founding : Founding) (book : Book) : Type 0 where

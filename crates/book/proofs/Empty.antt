@@ -9,7 +9,7 @@ use Rattle.book.specs.Calls.{Call, grant}
 use Rattle.book.specs.Rulings.{refuses, answer_of, book_after, there_is}
 use Rattle.book.specs.Questions.{Rules, ruling, answer, after_all}
 use Rattle.book.specs.Founding.{Founding, founding_refusal, root_entry, book_unless, founded}
-use Rattle.book.specs.Runs.{Sent, Lines, Exchange, Serves, Runs, made_by, back_at, after_made, book_at_end}
+use Rattle.book.specs.Runs.{Sent, Lines, Recovers, Exchange, Serves, Runs, made_by, back_at, after_made, book_at_end}
 use Rattle.book.specs.Given.{gift_in, gifts}
 use Rattle.book.specs.Beneath.{by_grant, RefusedFoundings}
 use Rattle.book.proofs.Room.{HasRoom, RoomAlong}
@@ -37,19 +37,19 @@ module _ (lines : Lines) (rules : Rules) where
   empty_at_end book (exchange ∷ run) empty runs = empty_at_end exchange.book run (empty_after book exchange empty runs.0) runs.1
 
   -- nothing is given
-  none_given : (sent : Sent) → gift_in lines sent (back_at lines rules [] sent) ≡ None
-  none_given sent = go (made_by lines sent) (sent_tells rules [] tt lines sent)
+  none_given : Recovers lines → (sent : Sent) → gift_in lines sent (back_at lines rules [] sent) ≡ None
+  none_given recovers sent = go (made_by lines sent) (sent_tells rules [] tt lines recovers sent)
     where
       go : (made : Option Call) → Tells rules [] tt lines sent made (back_at lines rules [] sent) → gift_in lines sent (back_at lines rules [] sent) ≡ None
       go None both = both.0
       go (Some call) both = both.0 ∙ ap gift_of (ruling_when_empty rules call)
 
-  pub empty_gives : (book : Book) (run : List Exchange) → book ≡ [] → Runs lines rules book run → gifts lines run ≡ []
-  empty_gives book [] empty runs = refl
-  empty_gives book (exchange ∷ run) empty runs =
+  pub empty_gives : Recovers lines → (book : Book) (run : List Exchange) → book ≡ [] → Runs lines rules book run → gifts lines run ≡ []
+  empty_gives recovers book [] empty runs = refl
+  empty_gives recovers book (exchange ∷ run) empty runs =
       ap (λ gift. cons_option gift (gifts lines run))
-      (ap (gift_in lines exchange.sent) (runs.0.answered ∙ ap (λ book. back_at lines rules book exchange.sent) empty) ∙ none_given exchange.sent)
-      ∙ empty_gives exchange.book run (empty_after book exchange empty runs.0) runs.1
+      (ap (gift_in lines exchange.sent) (runs.0.answered ∙ ap (λ book. back_at lines rules book exchange.sent) empty) ∙ none_given recovers exchange.sent)
+      ∙ empty_gives recovers exchange.book run (empty_after book exchange empty runs.0) runs.1
 
   -- and where nobody is found, there is room wherever somebody has 1 left
   empty_room : HasRoom []

@@ -27,7 +27,7 @@ first_turned t other kind (row ∷ rows) =
     (λ apart. ap (position_or_len (is_at t)) (turned_behind other kind row rows apart).0
     ∙ ap (λ n. cond (not (is_at t row)) (1 + n) 0) (first_turned t other kind rows))
 
-length_turned : (t : List ℕ) (kind : Kind) (book : Book) → length (turned t kind book) ≡ length book
+pub length_turned : (t : List ℕ) (kind : Kind) (book : Book) → length (turned t kind book) ≡ length book
 length_turned t kind [] = ap length (turned_none t kind)
 length_turned t kind (row ∷ rows) =
     at_or_not t row (λ here. ap length (turned_here t kind row rows here).0)

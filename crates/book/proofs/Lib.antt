@@ -20,6 +20,7 @@ pub mod Neighbours
 pub mod OwnGrants
 pub mod GrantRows
 pub mod Serving
+pub mod Longer
 pub mod Passing
 pub mod Staying
 pub mod Empty

@@ -85,7 +85,7 @@ some_lines calls = (
     has_room = λ _. true;
     bytes_of = λ _ _ answer. marked (identifier_in answer);
     recover = unmarked;
-    recovers = λ _ _ answer _ _. unmarked_is (identifier_in answer);
   },
+  λ _ _ answer _ _. unmarked_is (identifier_in answer),
   λ number page. (refl, refl),
 )

@@ -8,7 +8,7 @@ use Rattle.book.specs.Book.{Book}
 use Rattle.book.specs.Calls.{Call, collect, accept_grant, decline_grant}
 use Rattle.book.specs.Rulings.{Ruling, refuses, enters, turns, tells, answer_of}
 use Rattle.book.specs.Questions.{Rules, answer, ruling}
-use Rattle.book.specs.Runs.{Sent, line, collects, accepts_grant, declines_grant, Back, too_short, written, unread, by_call, identifier_in, Lines, made_by, line_answer, handed_back, back_at}
+use Rattle.book.specs.Runs.{Sent, line, collects, accepts_grant, declines_grant, Back, too_short, written, unread, by_call, identifier_in, Lines, Recovers, made_by, line_answer, handed_back, back_at}
 use Rattle.book.specs.Given.{Gift, gift_by, declined_by, gift_in, decline_in}
 use Rattle.book.specs.Law.{quota_in}
 use Rattle.book.proofs.Rows.{chosen}
@@ -99,32 +99,32 @@ module _ (rules : Rules) (book : Book) (identified : Identified book) where
     Tells None back = (gift_in lines sent back ≡ None) × (decline_in lines sent back ≡ None)
     Tells (Some call) back = (gift_in lines sent back ≡ gift_of (ruling rules book call)) × (decline_in lines sent back ≡ ended_of (ruling rules book call))
 
-  line_tells : (lines : Lines) (bytes : List ℕ) (page : ℕ) (roomy : Bool) (call : Option Call) → lines.has_room page ≡ roomy → lines.call_of bytes ≡ call
+  line_tells : (lines : Lines) → Recovers lines → (bytes : List ℕ) (page : ℕ) (roomy : Bool) (call : Option Call) → lines.has_room page ≡ roomy → lines.call_of bytes ≡ call
       → Tells lines (line bytes page) (cond roomy call None)
       (cond roomy (written (lines.bytes_of bytes page (line_answer (option_map (answer rules book) call)))) too_short)
-  line_tells lines bytes page false call room is = (refl, refl)
-  line_tells lines bytes page true None room is = (
+  line_tells lines recovers bytes page false call room is = (refl, refl)
+  line_tells lines recovers bytes page true None room is = (
     ap (option_and_then (λ call. option_and_then (gift_by call) (lines.recover (lines.bytes_of bytes page unread)))) is,
     ap (λ call. option_and (lines.recover (lines.bytes_of bytes page unread)) (option_and_then declined_by call)) is ∙ and_none _,
   )
-  line_tells lines bytes page true (Some call) room is =
+  line_tells lines recovers bytes page true (Some call) room is =
       let r = ruling rules book call in
       let says = ruling_says rules book call in
-      let read = lines.recovers bytes page (by_call (answer_of r)) room (identifier_is call r says) in (
+      let read = recovers bytes page (by_call (answer_of r)) room (identifier_is call r says) in (
         ap (option_and_then (λ call. option_and_then (gift_by call) (lines.recover (lines.bytes_of bytes page (by_call (answer_of r)))))) is
             ∙ ap (option_and_then (gift_by call)) read ∙ gift_is call r says,
         ap (λ call. option_and (lines.recover (lines.bytes_of bytes page (by_call (answer_of r)))) (option_and_then declined_by call)) is
             ∙ ap (λ o. option_and o (declined_by call)) read ∙ ended_is rules book call r says,
       )
 
-  pub sent_tells : (lines : Lines) (sent : Sent) → Tells lines sent (made_by lines sent) (back_at lines rules book sent)
-  sent_tells lines (line bytes page) = line_tells lines bytes page (lines.has_room page) (lines.call_of bytes) refl refl
-  sent_tells lines (collects taker t) =
+  pub sent_tells : (lines : Lines) → Recovers lines → (sent : Sent) → Tells lines sent (made_by lines sent) (back_at lines rules book sent)
+  sent_tells lines recovers (line bytes page) = line_tells lines recovers bytes page (lines.has_room page) (lines.call_of bytes) refl refl
+  sent_tells lines recovers (collects taker t) =
       let says = ruling_says rules book (collect taker t) in
       (sym (gift_none rules book _ _ says (λ _. refl)), sym (ended_none rules book _ _ says refl))
-  sent_tells lines (accepts_grant t) =
+  sent_tells lines recovers (accepts_grant t) =
       let says = ruling_says rules book (accept_grant t) in
       (sym (gift_none rules book _ _ says (λ _. refl)), sym (ended_none rules book _ _ says refl))
-  sent_tells lines (declines_grant t) =
+  sent_tells lines recovers (declines_grant t) =
       let says = ruling_says rules book (decline_grant t) in
       (sym (gift_none rules book _ _ says (λ _. refl)), decline_spent_is rules book t lines _ says)

@@ -11,7 +11,7 @@ use Rattle.book.specs.Kinds.{is_authority}
 use Rattle.book.specs.Book.{Entry, Book, is_at, found}
 use Rattle.book.specs.Left.{told_left}
 use Rattle.book.specs.Founding.{Founding, founding_refusal, root_entry, founded}
-use Rattle.book.specs.Runs.{by_call, identifier_in, Lines, Exchange, Runs}
+use Rattle.book.specs.Runs.{by_call, identifier_in, Lines, Recovers, Exchange, Runs}
 use Rattle.book.specs.Given.{gifts}
 use Rattle.book.specs.Law.{FoundedAlike, Start, at_founding, quota_of, Alike, sent_elsewhere, SameElsewhere, ByRule, Law, EveryRun}
 use Rattle.book.specs.Calls.{Call}
@@ -43,20 +43,20 @@ unfelt lines founding other alike x is_x run others runs others_run room others_
     room (others_room other_run) sent)
 
 -- from a good founding
-good_law : (lines : Lines) (founding : Founding) → is_identifier founding.root ≡ true → founding_refusal founding ≡ None
+good_law : (lines : Lines) → Recovers lines → (founding : Founding) → is_identifier founding.root ≡ true → founding_refusal founding ≡ None
     → (run : List Exchange) → Runs lines founding.rules (founded founding) run → Law lines (at_founding founding) run
-good_law lines founding identifier good run runs =
+good_law lines recovers founding identifier good run runs =
     let start = founded_sound founding identifier good in
-    let sound = run_sound founding founding.rules lines (founded founding) [] [] run start runs in
+    let sound = run_sound founding founding.rules lines recovers (founded founding) [] [] run start runs in
     let quota = good_quota founding good in
     record {
       neighbours_unfelt = λ x is_x other alike others others_run sent.
           unfelt lines founding other alike x is_x run others runs others_run
-          (run_room founding founding.rules lines quota (founded founding) [] [] run start runs)
-          (λ other_run. run_room founding other.rules lines quota (founded founding) [] [] others start other_run) sent;
+          (run_room founding founding.rules lines recovers quota (founded founding) [] [] run start runs)
+          (λ other_run. run_room founding other.rules lines recovers quota (founded founding) [] [] others start other_run) sent;
       given_once = once founding _ _ _ sound;
       given_by_rule = All-from_recursion (ByRule founding.rules) (gifts lines run)
-          (run_by_rule founding founding.rules lines (founded founding) [] [] run start runs);
+          (run_by_rule founding founding.rules lines recovers (founded founding) [] [] run start runs);
       quotas_told = told founding _ _ _ sound (good_book founding good);
       quotas_add_up = quotas founding _ _ _ sound (good_book founding good);
     }
@@ -70,11 +70,11 @@ unfolding found
 no_quota founding authority = refl
 
 -- from a refused one
-refused_law : (lines : Lines) (founding : Founding) (refusal : FoundingRefusal) → founding_refusal founding ≡ Some refusal
+refused_law : (lines : Lines) → Recovers lines → (founding : Founding) (refusal : FoundingRefusal) → founding_refusal founding ≡ Some refusal
     → (run : List Exchange) → Runs lines founding.rules (founded founding) run → Law lines (at_founding founding) run
-refused_law lines founding refusal is run runs =
+refused_law lines recovers founding refusal is run runs =
     let start = refused_book founding refusal is in
-    let nothing = empty_gives lines founding.rules (founded founding) run start runs in
+    let nothing = empty_gives lines founding.rules recovers (founded founding) run start runs in
     record {
       neighbours_unfelt = λ x is_x other alike others others_run sent.
           unfelt lines founding other alike x is_x run others runs others_run
@@ -93,14 +93,14 @@ refused_law lines founding refusal is run runs =
     }
 
 pub every_run : EveryRun
-every_run lines start begins run runs =
+every_run lines recovers start begins run runs =
     subst (λ start. Law lines start run) (sym begins.2)
     (go (founding_refusal begins.0) refl (subst (λ start. Runs lines start.rules start.book run) begins.2 runs))
   where
     go : (refusal : Option FoundingRefusal) → founding_refusal begins.0 ≡ refusal → Runs lines begins.0.rules (founded begins.0) run
         → Law lines (at_founding begins.0) run
-    go None good runs = good_law lines begins.0 begins.1 good run runs
-    go (Some refusal) is runs = refused_law lines begins.0 refusal is run runs
+    go None good runs = good_law lines recovers begins.0 begins.1 good run runs
+    go (Some refusal) is runs = refused_law lines recovers begins.0 refusal is run runs
 
 -- a founding's book does not depend on its rules
 pub founded_alike : FoundedAlike

@@ -8,7 +8,7 @@ use Rattle.book.specs.Calls.{Call, accept_grant, decline_grant}
 use Rattle.book.specs.Rulings.{refused}
 use Rattle.book.specs.Questions.{Rules, answer, after_all}
 use Rattle.book.specs.Founding.{Founding, founding_refusal, founded}
-use Rattle.book.specs.Runs.{Sent, Lines, made_by, Exchange, Runs, book_at_end}
+use Rattle.book.specs.Runs.{Sent, Lines, Recovers, made_by, Exchange, Runs, book_at_end}
 use Rattle.book.specs.declared.kind.Kind.{Kind}
 use Rattle.book.specs.declared.kind.Kind.TheVariants.{Panel, Retired, Offered, InHand, Open, Declined}
 use Rattle.book.specs.declared.refusal.Refusal.TheVariants.{NotInBook, BookFull, NotInHand}
@@ -30,9 +30,9 @@ OneRun = (lines : Lines) (rules : Rules) (book : Book) (sent : List Sent)
     × ((other : List Exchange) → Runs lines rules book other → map (λ exchange. exchange.sent) other ≡ sent → other ≡ run)
 
 -- Lines can be read and answered so: for any calls there is a way by which a line of one number makes the call at that place in the list,
--- counted from 0, and every page is long enough.
+-- counted from 0, every page is long enough, and identifiers are recovered.
 abbrev pub SomeLines : Type 0
-SomeLines = (calls : List Call) → (lines : Lines)
+SomeLines = (calls : List Call) → (lines : Lines) × Recovers lines
     × ((number page : ℕ) → (lines.call_of (number ∷ []) ≡ slice_get calls number) × (lines.has_room page ≡ true))
 
 -- what all that are offered, in hand or open have left

@@ -11,7 +11,7 @@ use Rattle.book.specs.Left.{told_left}
 use Rattle.book.specs.Free.{in_set}
 use Rattle.book.specs.Questions.{Rules}
 use Rattle.book.specs.Founding.{Founding, founded}
-use Rattle.book.specs.Runs.{Lines, Sent, placed, Exchange, Runs, book_at_end}
+use Rattle.book.specs.Runs.{Lines, Recovers, Sent, placed, Exchange, Runs, book_at_end}
 use Rattle.book.specs.Given.{Gift, gifts, declines}
 
 -- Where a run starts: the rules, a book, and what was given before and stands in it.
@@ -118,7 +118,7 @@ pub record Law (lines : Lines) (start : Start) (run : List Exchange) : Type 0 wh
       → quota_of start (gifts lines run) authority
       ≡ Some (left + count_given authority (all_given lines start run) + sum_taken authority (all_given lines start run) (declines lines run))
 
--- The law: of all ways to read and answer lines, all starts with any rules, and all runs.
+-- The law: of all ways to read and answer lines by which identifiers are recovered, all starts with any rules, and all runs.
 abbrev pub EveryRun : Type 0
-EveryRun = (lines : Lines) (start : Start) → Begins start
+EveryRun = (lines : Lines) → Recovers lines → (start : Start) → Begins start
     → (run : List Exchange) → Runs lines start.rules start.book run → Law lines start run

@@ -38,7 +38,7 @@ identifier_in (by_call (named identifier)) = Some identifier
 identifier_in (by_call (listed identifier children)) = Some identifier
 identifier_in (by_call (collected holder quota)) = None
 
--- How lines are read and answered. Nothing else of them matters here: any such functions will do.
+-- How lines are read and answered. Nothing else of them matters here: any such functions will do, if they recover.
 pub record Lines : Type 0 where
   -- the call that a line makes; none where it could not be read
   pub call_of : List ℕ → Option Call
@@ -48,9 +48,13 @@ pub record Lines : Type 0 where
   pub bytes_of : List ℕ → ℕ → LineAnswer → List ℕ
   -- the identifier in an `ok` line, taken from the bytes that were written; none of any other answer
   pub recover : List ℕ → Option (List ℕ)
-  pub recovers : (bytes : List ℕ) (page : ℕ) (answer : LineAnswer) → has_room page ≡ true
-      → ForSome (identifier_in answer) (λ identifier. is_identifier identifier ≡ true)
-      → recover (bytes_of bytes page answer) ≡ identifier_in answer
+
+-- From what is written for a line, on a page that is long enough, the identifier of an `ok` answer can be told, and none from any other
+-- answer.
+abbrev pub Recovers : Lines → Type 0
+Recovers lines = (bytes : List ℕ) (page : ℕ) (answer : LineAnswer) → lines.has_room page ≡ true
+    → ForSome (identifier_in answer) (λ identifier. is_identifier identifier ≡ true)
+    → lines.recover (lines.bytes_of bytes page answer) ≡ identifier_in answer
 
 -- the call that something sent would make, were its page long enough; none for a line that could not be read
 abbrev pub call_in : Lines → Sent → Option Call
