@@ -50,3 +50,8 @@ follows_no ruling before refusal is = follows_same ruling (refuses refusal) befo
 pub follows_err : (ruling : Ruling) (before : Book) (refusal : Refusal) (answer : Answer) → answer ≡ refused refusal
     → ruling ≡ refuses refusal → Follows ruling before answer before
 follows_err ruling before refusal answer is no_more = rw is (follows_no ruling before refusal no_more)
+
+-- and so does what is answered the same
+pub follows_answer : (ruling : Ruling) (before : Book) (answer same : Answer) (after : Book) → answer ≡ same
+    → Follows ruling before same after → Follows ruling before answer after
+follows_answer ruling before answer same after is follows = record { answers = is ∙ follows.answers; leaves = follows.leaves }

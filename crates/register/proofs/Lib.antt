@@ -5,3 +5,4 @@ pub mod FreeArcs
 pub mod Asking
 pub mod Below
 pub mod Turns
+pub mod GrantCalls

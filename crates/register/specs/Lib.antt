@@ -1,3 +1,4 @@
 pub mod Kept
 pub mod Registers
 pub mod Asked
+pub mod Granted

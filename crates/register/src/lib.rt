@@ -3,6 +3,7 @@
 #![tactic(auto)]
 
 pub mod founding;
+pub mod grant;
 pub mod register;
 mod row;
 mod standing;
@@ -10,4 +11,5 @@ mod standing;
 mod tests;
 
 pub use founding::Founding;
+pub use grant::{Grant, Terms, Unspent};
 pub use register::{MOST_ENTRIES, Register};

@@ -9,6 +9,7 @@ mod changing;
 mod finding;
 mod free;
 mod giving;
+mod granting;
 mod left;
 mod making;
 mod order;
