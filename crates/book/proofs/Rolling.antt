@@ -35,17 +35,17 @@ all_put Holds child (next ∷ others) here all =
     (all_put Holds child others here (All-tail Holds next others all)))
 
 -- and what holds of all children holds of them in order
-all_in_order : (Holds : Entry → Type 0) (children : List Entry) → All Holds children → All Holds (in_order children)
+pub all_in_order : (Holds : Entry → Type 0) (children : List Entry) → All Holds children → All Holds (in_order children)
 unfolding in_order
 all_in_order Holds [] all = all
 all_in_order Holds (child ∷ others) all =
     all_put Holds child (in_order others) (All-head Holds child others all) (all_in_order Holds others (All-tail Holds child others all))
 
 -- the arc of a child is below that of another; in an ascending list it is below all after it
-abbrev Earlier : Entry → Entry → Type 0
+abbrev pub Earlier : Entry → Entry → Type 0
 Earlier child later = arc_of_child child < arc_of_child later
 
-abbrev Ascending : List Entry → Type 0
+abbrev pub Ascending : List Entry → Type 0
 Ascending [] = ⊤
 Ascending (child ∷ others) = All (Earlier child) others × Ascending others
 
@@ -59,7 +59,7 @@ ascending_put child (next ∷ others) rising =
     (λ instead. (All-weaker (Earlier next) (Earlier child) (λ later h. omega arith) others rising.0, rising.1))
     (λ after. (all_put (Earlier next) child others after rising.0, ascending_put child others rising.1))
 
-ascending_in_order : (children : List Entry) → Ascending (in_order children)
+pub ascending_in_order : (children : List Entry) → Ascending (in_order children)
 unfolding in_order
 ascending_in_order [] = tt
 ascending_in_order (child ∷ others) = ascending_put child (in_order others) (ascending_in_order others)

@@ -1,15 +1,15 @@
 -- The calls of Grants.
-use Rattle.std.proofs.Common.{◌≡◌, ℕ, ◌<◌, true, cond, List, length, get_or, is_some, Some, None, Option, refl, sym, ap, ◌∙◌, arith, ◌==◌}
-use Rattle.std.specs.Prelude.{slice_get, slice_set}
+use Rattle.std.proofs.Common.{◌≡◌, ℕ, ◌<◌, true, List, length, get_or, is_some, Some, None, sym, ap, ◌∙◌, arith, ◌==◌}
+use Rattle.std.specs.Prelude.{slice_get}
 use Rattle.std.specs.List.{slice_index_or}
 use Rattle.std.proofs.lemmas.Bool.{cond-true, eq-eqb}
 use Rattle.std.proofs.lemmas.List.{get_or-set_same, get_or-map, length-map, length-set}
 use Rattle.std.proofs.lemmas.Option.{option_and_then_some, slice_get_within}
 use Rattle.oid.specs.Meaning.{arcs_of}
 use Rattle.book.specs.Book.{Entry, Book}
-use Rattle.book.specs.Calls.{Call, collect, accept_grant, decline_grant}
+use Rattle.book.specs.Calls.{Call}
 use Rattle.book.specs.Changes.{with_next, next_in, with_entry}
-use Rattle.book.specs.Grants.{Grant, IsOwn, DoesAs, spent, answer_spent}
+use Rattle.book.specs.Grants.{Grant, DoesAs, spent, answer_spent}
 use Rattle.book.specs.Questions.{Rules, ruling}
 use Rattle.book.specs.Rulings.{Answer, named}
 use Rattle.book.specs.declared.event.Event.{Event}

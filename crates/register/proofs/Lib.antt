@@ -6,3 +6,6 @@ pub mod Asking
 pub mod Below
 pub mod Turns
 pub mod GrantCalls
+pub mod LineCalls
+pub mod Onward
+pub mod RollLines

@@ -1,5 +1,5 @@
 -- An entry that a call names gets another kind.
-use Rattle.std.proofs.Common.{◌≡◌, ℕ, ◌<◌, Bool, true, false, List, length, get_or, is_some, Some, None, Option, refl, sym, ap, ◌∙◌}
+use Rattle.std.proofs.Common.{◌≡◌, ℕ, ◌<◌, Bool, true, false, List, length, get_or, is_some, Some, None, Option, refl, ap, ◌∙◌}
 use Rattle.std.proofs.lemmas.Option.{get_or_from_slice_get}
 use Rattle.std.proofs.lemmas.List.Quantifiers.{position-Some}
 use Rattle.std.specs.Option.{option_map, option_and_then}
@@ -7,7 +7,7 @@ use Rattle.book.specs.Kinds.{next_kind}
 use Rattle.book.specs.Book.{Entry, Book, is_at, found}
 use Rattle.book.specs.Changes.{with_next, next_in, with_entry}
 use Rattle.book.specs.Questions.{turning}
-use Rattle.book.specs.Rulings.{Answer, refused, Ruling, turns, turned, ask, there_is}
+use Rattle.book.specs.Rulings.{Answer, refused, turns, turned, ask}
 use Rattle.book.specs.declared.event.Event.{Event}
 use Rattle.book.specs.declared.kind.Kind.{Kind}
 use Rattle.book.specs.declared.refusal.Refusal.TheVariants.{NotInBook, WrongKind, NotHolder}

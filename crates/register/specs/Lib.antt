@@ -2,3 +2,4 @@ pub mod Kept
 pub mod Registers
 pub mod Asked
 pub mod Granted
+pub mod Submitted

@@ -9,6 +9,7 @@ mod row;
 mod standing;
 #[cfg(test)]
 mod tests;
+mod yes;
 
 pub use founding::Founding;
 pub use grant::{Grant, Terms, Unspent};

@@ -11,8 +11,10 @@ mod free;
 mod giving;
 mod granting;
 mod left;
+mod listing;
 mod making;
 mod order;
+mod submitting;
 mod telling;
 mod turning;
 

@@ -3,12 +3,14 @@ ghost use Rattle.std.specs.Prelude.{◌≡◌, ◌≤◌, ◌^◌, is_some};
 ghost use Rattle.oid.specs.Meaning.{arcs_of};
 ghost use Rattle.book.specs.Book.{is_at, is_child, arc_of_child};
 ghost use Rattle.book.specs.Changes.{turned_entry};
+ghost use Rattle.request.specs.Answers.{child_of};
 ghost use Rattle.register.specs.Kept.{entry_of, has_arc};
 ghost use Rattle.book.specs.Kinds.{next_kind};
 ghost use Rattle.book.specs.Left.{counted};
 
 use book::{Event, Kind};
 use oid::{Arc, Identifier};
+use request::Child;
 
 // An entry, as the register keeps it.
 #[derive(Clone, Copy)]
@@ -51,6 +53,18 @@ impl Row {
         ensures { result ≡ has_arc (arcs_of authority.now) arc (entry_of self.now) }
     {
         self.arc() == arc && self.is_child(authority)
+    }
+
+    // What a roll shows of it.
+    pub(crate) fn child(&self) -> Child
+        ensures { result ≡ child_of (entry_of self.now) }
+    {
+        Child {
+            arc: self.arc(),
+            kind: self.kind,
+            holder: self.holder,
+            quota: self.quota,
+        }
     }
 
     // What it has used up of the quota of the authority above it.

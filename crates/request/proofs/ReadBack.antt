@@ -9,7 +9,8 @@ use Rattle.oid.specs.declared.identifier.Identifier as code_identifier
 use Rattle.dotted.specs.Writing.{dotted_text}
 use Rattle.dotted.proofs.Theorems.{reads_back}
 use Rattle.book.specs.Rulings.{refused, named, listed, collected}
-use Rattle.book.specs.Runs.{unread, by_call}
+use Rattle.book.specs.Runs.{unread, by_call, Recovers}
+use Rattle.request.specs.RequestLines.{request_lines}
 use Rattle.request.specs.Answers.{ok_line, no_line, first_line, child_of, roll_lines, fault_line, offset_in}
 use Rattle.request.specs.ReadBack.{first_words, identifier_by, identifier_read, no_with, no_by, no_read, told_of, ReadsBack, IdentifiersReadBack}
 use Rattle.request.specs.Reading.{Reading, read_line}
@@ -92,3 +93,6 @@ identifiers_read_back line page (by_call (named arcs)) is = alone (ok_line arcs)
 identifiers_read_back line page (by_call (listed arcs children)) is =
     ok_read arcs (roll_lines page (length (ok_line arcs)) (map child_of children)) (is arcs refl)
 identifiers_read_back line page (by_call (collected holder quota)) is = refl
+
+pub lines_recover : Recovers request_lines
+lines_recover line page_length answer room identified = identifiers_read_back line page_length answer identified

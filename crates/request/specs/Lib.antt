@@ -13,3 +13,4 @@ pub mod Rolls
 pub mod ReadBack
 pub mod Example
 pub mod Parts
+pub mod RequestLines

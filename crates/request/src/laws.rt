@@ -1,8 +1,10 @@
 // Laws of request lines, each as the contract of a function.
+ghost use Rattle.book.specs.Runs.{Recovers};
 ghost use Rattle.request.specs.Example.{WorkedLines};
 ghost use Rattle.request.specs.Fitting.{LinesFit, RollsFit};
 ghost use Rattle.request.specs.Lines.{EqualButPrefix};
 ghost use Rattle.request.specs.ReadBack.{IdentifiersReadBack, ChildLinesApart};
+ghost use Rattle.request.specs.RequestLines.{request_lines};
 ghost use Rattle.request.specs.Rolls.{RollsAreLines};
 
 // Two lines that are read as one call are equal but for their identifiers' prefix.
@@ -38,4 +40,9 @@ pub fn worked_lines()
 // A roll has the lines of its first children, as many as leave 16 bytes of the page behind each, and the line that ends it.
 pub fn rolls_are_lines()
     ensures { RollsAreLines }
+{}
+
+// Identifiers can be told from what is written for request lines, as the law over every run asks of lines.
+pub fn lines_recover()
+    ensures { Recovers request_lines }
 {}

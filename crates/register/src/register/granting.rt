@@ -66,7 +66,12 @@ impl<P, A> Register<P, A> {
                 refusal: Refusal::NotInHand,
             });
         }
-        let Grant { serial: _, row, holder: _, quota: _ } = grant;
+        let Grant {
+            serial: _,
+            row,
+            holder: _,
+            quota: _,
+        } = grant;
         Ok(self.rows[row].identifier)
     }
 }

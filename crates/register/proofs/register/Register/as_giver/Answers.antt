@@ -1,4 +1,4 @@
-use Rattle.std.proofs.Common.{Ok, Err, sym, ap, ◌∙◌, arith}
+use Rattle.std.proofs.Common.{◌∙◌, arith}
 use Rattle.std.proofs.lemmas.Bool.{lt-leb, le-leb}
 use Rattle.book.specs.declared.refusal.Refusal.TheVariants.{TooDeep, TooLittleLeft}
 use Rattle.register.proofs.Asking.{asked_yes, asked_no}

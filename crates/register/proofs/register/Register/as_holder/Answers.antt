@@ -1,10 +1,7 @@
-use Rattle.std.proofs.Common.{◌≡◌, Some, None, Ok, Err, refl, sym, ap, ◌∙◌}
+use Rattle.std.proofs.Common.{sym, ap, ◌∙◌}
 use Rattle.std.proofs.lemmas.Bool.{eq-eqb, ne_eqb}
-use Rattle.oid.specs.Meaning.{arcs_of}
-use Rattle.book.specs.Book.{found}
 use Rattle.book.specs.declared.refusal.Refusal.TheVariants.{NotInBook, WrongKind, NotHolder}
 use Rattle.register.specs.Kept.{entry_of}
-use Rattle.register.specs.Registers.{book_of}
 use Rattle.std.specs.Option.{option_map}
 use Rattle.register.proofs.Asking.{asked_yes, asked_no, something, nothing, never_refused}
 use Rattle.register.proofs.register.Register.as_holder.Goals as goal

@@ -1,6 +1,5 @@
-use Rattle.std.proofs.Common.{◌≡◌, Err, sym, ap, ◌∙◌}
+use Rattle.std.proofs.Common.{Err, sym, ap, ◌∙◌}
 use Rattle.std.proofs.lemmas.Result.{err_from_is_err_and}
-use Rattle.oid.specs.Meaning.{arcs_of}
 use Rattle.book.specs.Questions.{entering}
 use Rattle.book.specs.declared.kind.Kind.TheVariants.{Offered}
 use Rattle.book.specs.declared.refusal.Refusal.TheVariants.{NoArc}
