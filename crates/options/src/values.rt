@@ -37,10 +37,11 @@ pub(crate) fn root_in(text: &[u8]) -> Result<Identifier, BadOption>
 pub(crate) fn number_in(option: Name, most: u32, text: &[u8]) -> Result<u32, BadOption>
     ensures { result ≡ number_in option most text.now }
 {
-    match numeral(text) {
-        Some(number) if number <= most => Ok(number),
-        _ => Err(BadOption::NotANumber { option, most }),
-    }
+    let bad = BadOption::NotANumber { option, most };
+    let Some(number) = numeral(text) else {
+        return Err(bad);
+    };
+    if number <= most { Ok(number) } else { Err(bad) }
 }
 
 // The rule of the arcs from one to another, with - between.

@@ -6,7 +6,7 @@ use Rattle.options.specs.declared.bad_option.BadOption.TheVariants.{NotANumber}
 use Rattle.options.proofs.Capping.{none_to}
 use Rattle.options.proofs.values.number_in.Goals as goal
 
-pub returns-in_default-2 : goal.returns-in_default-2
-returns-in_default-2 c =
+pub returns-in_default : goal.returns-in_default
+returns-in_default c =
     let most = c.args.most in
     ap (λ found. ok_or found (NotANumber c.args.option most)) (sym (none_to most (numeral c.args.text.now) (limit_width most (omega arith)) (sym c.numeral.ensures ∙ c.in_default.is)))
