@@ -1,6 +1,8 @@
 -- The walk over a text from number to number, and the value of one.
-use Rattle.std.proofs.Common.{◌≡◌, ℕ, suc, ◌+◌, ◌<◌, ◌≤◌, min, Bool, true, false, cond, not, leb, List, [], ◌∷◌, ◌++◌, get_or, map, length, take, drop, Some, None, Option, unwrap_or, refl, sym, ap, ◌∙◌, ⊎_elim, arith}
-use Rattle.std.specs.List.{before_first, position, position_or_len}
+use Rattle.std.proofs.Common.{◌≡◌, ℕ, suc, ◌+◌, ◌<◌, ◌≤◌, min, Bool, true, false, cond, not, ◌&&◌, leb, List, [], ◌∷◌, ◌++◌, get_or, map, length, take, drop, Some, None, Option, unwrap_or, refl, sym, ap, ◌∙◌, ⊎_elim, arith}
+use Rattle.std.specs.Char.{is_ascii_digit}
+use Rattle.std.specs.List.{before_first, position, position_or_len, list_all}
+use Rattle.std.specs.Str.{all_ascii_digits}
 use Rattle.std.proofs.Math.Dec.{leb-suc-suc}
 use Rattle.std.proofs.lemmas.Bool.{cases_lt, cond-true, le-leb, lt-ltb, le-ltb}
 use Rattle.std.proofs.lemmas.Bool.Decides.{nat_tests}
@@ -102,3 +104,7 @@ arc_capped largest number h =
     (λ below. let same : min number largest ≡ number = omega arith in ap arc_of same)
     (λ above. arc_of_none (min number largest) (omega arith) ∙ sym (arc_of_none number (omega arith)))
     (cases_lt number largest)
+
+pub digits_listed : (text : List ℕ) → list_all is_ascii_digit text ≡ all_ascii_digits text
+digits_listed [] = refl
+digits_listed (byte ∷ text) = ap (λ v. is_ascii_digit byte && v) (digits_listed text)

@@ -1,6 +1,7 @@
 -- Dotted text split at its dots, and the number that each piece writes.
-use Rattle.std.specs.Prelude.{ℕ, ◌+◌, ◌-◌, Bool, cond, ◌&&◌, List, [], ◌∷◌, map, length, ◌==◌, nat_lt, slice_index}
+use Rattle.std.specs.Prelude.{ℕ, ◌+◌, ◌-◌, Bool, cond, ◌&&◌, not, List, [], ◌∷◌, map, length, Some, None, Option, ◌==◌, nat_lt, slice_index}
 use Rattle.std.specs.Int.Digits.{number_from_digits}
+use Rattle.std.specs.Str.{all_ascii_digits}
 use Rattle.oid.specs.Numbers.{Number}
 use Rattle.dotted.specs.Form.{is_dot}
 
@@ -27,6 +28,14 @@ decimal_value digits = number_from_digits 10 (map (λ byte. byte - 48) digits)
 -- two or more digits of which the first is 0
 abbrev pub leading_zero : List ℕ → Bool
 leading_zero digits = nat_lt 1 (length digits) && slice_index digits 0 == 48
+
+-- decimal digits, one at least, and without a needless 0 in front
+abbrev pub is_numeral : List ℕ → Bool
+is_numeral text = nat_lt 0 (length text) && (all_ascii_digits text && not (leading_zero text))
+
+-- the number that they write
+abbrev pub numeral : List ℕ → Option ℕ
+numeral text = cond (is_numeral text) (Some (decimal_value text)) None
 
 abbrev pub number_in : Piece → Number
 number_in piece = record { offset = piece.offset; value = decimal_value piece.digits; padded = leading_zero piece.digits }

@@ -2,10 +2,12 @@
 ghost use Rattle.std.specs.Prelude.{◌≡◌, ◌≤◌, ◌==◌, length, drop};
 ghost use Rattle.std.specs.Iterator.{YieldsFirst, item_count};
 ghost use Rattle.std.specs.List.{before_first};
+ghost use Rattle.std.specs.Option.{option_and_then};
+ghost use Rattle.std.specs.Str.{all_ascii_digits};
 ghost use Rattle.oid.specs.Arcs.{arc_of};
 ghost use Rattle.oid.specs.Collected.{Collected, numeral_of};
 ghost use Rattle.dotted.specs.Form.{is_dot};
-ghost use Rattle.dotted.specs.Pieces.{decimal_value, leading_zero, number_in, numbers_from};
+ghost use Rattle.dotted.specs.Pieces.{decimal_value, leading_zero, is_numeral, numeral, number_in, numbers_from};
 ghost use Rattle.dotted.specs.Numerals.{numerals_left};
 
 use digits::with_digit;
@@ -81,4 +83,27 @@ pub fn leading_zero(digits: &[u8]) -> bool
     ensures { result ≡ leading_zero digits.now }
 {
     digits.len() > 1 && digits[0] == b'0'
+}
+
+// The arc that decimal digits write without a needless 0 in front; none where the bytes are anything else, or the number is too large.
+pub fn numeral(text: &[u8]) -> Option<Arc>
+    ensures { result ≡ option_and_then arc_of (numeral text.now) }
+{
+    if !is_numeral(text) {
+        return None;
+    }
+    arc_in(text)
+}
+
+// Whether the bytes are decimal digits without a needless 0 in front.
+fn is_numeral(text: &[u8]) -> bool
+    ensures { result ≡ is_numeral text.now }
+{
+    !text.is_empty() && all_digits(text) && !leading_zero(text)
+}
+
+fn all_digits(text: &[u8]) -> bool
+    ensures { result ≡ all_ascii_digits text.now }
+{
+    text.iter().all(|byte| byte.is_ascii_digit())
 }

@@ -1,19 +1,13 @@
 -- Numbers of fields.
 use Rattle.std.proofs.Common.{◌≡◌, ℕ, ◌<◌, false, cond, ◌&&◌, leb, List, [], ◌∷◌, Some, None, Option, refl, ap, ◌∙◌, sym, ⊎_elim, arith}
-use Rattle.std.specs.Char.{is_ascii_digit}
-use Rattle.std.specs.List.{list_all}
 use Rattle.std.specs.Option.{option_and_then}
-use Rattle.std.specs.Str.{all_ascii_digits}
 use Rattle.std.proofs.lemmas.Bool.{cases_lt, cond-false, lt-leb, and_right}
 use Rattle.oid.specs.Arcs.{arc_limit, arc_of}
 use Rattle.oid.proofs.Arcs.{arc_of_some, limit_width}
+use Rattle.dotted.specs.Pieces.{numeral}
 use Rattle.book.specs.Ranges.{most_quota, last_holder}
 use Rattle.request.specs.Verbs.{Sort, a_holder, an_identifier, an_arc, a_quota}
-use Rattle.request.specs.Fields.{Part, Field, numeral, in_range, number_in}
-
-pub digits_listed : (text : List ℕ) → list_all is_ascii_digit text ≡ all_ascii_digits text
-digits_listed [] = refl
-digits_listed (byte ∷ text) = ap (λ v. is_ascii_digit byte && v) (digits_listed text)
+use Rattle.request.specs.Fields.{Part, Field, in_range, number_in}
 
 -- what is no arc is in no range
 pub large : (sort : Sort) (number : ℕ) → arc_limit < number → in_range sort number ≡ false

@@ -14,13 +14,13 @@ use Rattle.oid.specs.Tree.{all_arcs, is_identifier}
 use Rattle.oid.proofs.Arcs.{limit_room}
 use Rattle.oid.proofs.Tree.{keeps}
 use Rattle.dotted.specs.Form.{is_digit}
-use Rattle.dotted.specs.Pieces.{decimal_value, leading_zero}
+use Rattle.dotted.specs.Pieces.{decimal_value, leading_zero, is_numeral, numeral}
 use Rattle.dotted.specs.Prefix.{prefix}
 use Rattle.dotted.specs.Writing.{dotted_text}
 use Rattle.dotted.proofs.Spelling.{digits_of, value_of, unpadded_of, written_again}
 use Rattle.dotted.proofs.Texts.{arc_fits, later_arcs}
 use Rattle.request.specs.Verbs.{Sort, verbs, verb_text, verb_of}
-use Rattle.request.specs.Fields.{space, is_space, words, Part, Field, parts_from, parts_of, is_numeral, numeral, in_range, number_in}
+use Rattle.request.specs.Fields.{space, is_space, words, Part, Field, parts_from, parts_of, in_range, number_in}
 use Rattle.request.specs.declared.verb.Verb.{Verb}
 use Rattle.request.specs.declared.verb.Verb.TheVariants.{Grant, Claim, Offer, Accept, Decline, Retire, Roll}
 use Rattle.request.proofs.Forms.{field}

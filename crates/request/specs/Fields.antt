@@ -1,10 +1,9 @@
 -- The words of a line, and its fields.
-use Rattle.std.specs.Prelude.{ℕ, ◌+◌, Bool, true, false, cond, ◌&&◌, not, List, [], ◌∷◌, length, find, filter, Some, None, Option, unwrap_or, ◌==◌, nat_lt}
+use Rattle.std.specs.Prelude.{ℕ, ◌+◌, Bool, true, false, cond, not, List, [], ◌∷◌, length, find, filter, Some, None, Option, unwrap_or, ◌==◌, nat_lt}
 use Rattle.std.specs.List.{slice_split}
 use Rattle.std.specs.Option.{option_map, option_and_then}
-use Rattle.std.specs.Str.{all_ascii_digits}
 use Rattle.oid.specs.Arcs.{is_arc}
-use Rattle.dotted.specs.Pieces.{decimal_value, leading_zero}
+use Rattle.dotted.specs.Pieces.{numeral}
 use Rattle.book.specs.Ranges.{is_holder, is_quota}
 use Rattle.request.specs.Verbs.{Sort, a_holder, an_identifier, an_arc, a_quota}
 
@@ -57,14 +56,6 @@ number_fields fields = filter (λ field. not (is_identifier_sort field.sort)) fi
 abbrev pub identifier_part : List Field → Part
 identifier_part fields =
     unwrap_or (option_map (λ field. field.part) (find (λ field. is_identifier_sort field.sort) fields)) (record { offset = 0; text = [] })
-
--- decimal digits, one at least, and without a needless 0 in front
-abbrev pub is_numeral : List ℕ → Bool
-is_numeral text = nat_lt 0 (length text) && (all_ascii_digits text && not (leading_zero text))
-
--- the number that they write
-abbrev pub numeral : List ℕ → Option ℕ
-numeral text = cond (is_numeral text) (Some (decimal_value text)) None
 
 -- holders, arcs and quotas are numbers, each in its range
 abbrev pub in_range : Sort → ℕ → Bool

@@ -7,11 +7,12 @@ use Rattle.std.specs.Result.{result_ok}
 use Rattle.oid.specs.Meaning.{arcs_of}
 use Rattle.oid.specs.Tree.{is_identifier}
 use Rattle.oid.specs.declared.identifier.Identifier.{Identifier}
+use Rattle.dotted.specs.Pieces.{numeral}
 use Rattle.dotted.specs.Reading.{read_dotted}
 use Rattle.book.specs.Kinds.{is_authority}
 use Rattle.book.specs.Runs.{LineAnswer, identifier_in}
 use Rattle.request.specs.Refusals.{number_of, letter_of}
-use Rattle.request.specs.Fields.{words, numeral}
+use Rattle.request.specs.Fields.{words}
 use Rattle.request.specs.Answers.{feed, child_line, last_line, answer_bytes}
 use Rattle.request.specs.declared.child.Child.{Child}
 use Rattle.request.specs.declared.refusal.Fault.{Fault}

@@ -3,8 +3,8 @@ use borrow.Author.Tests.{tests}
 use Rattle.std.specs.Char.{is_ascii_digit}
 use Rattle.std.proofs.lemmas.Iterator.{YieldsList-from_slice}
 use Rattle.std.proofs.lemmas.Iterator.Search.{all_from_yields_List}
-use Rattle.request.proofs.Numbers.{digits_listed}
-use Rattle.request.proofs.field.all_digits.Goals as goal
+use Rattle.dotted.proofs.Numerals.{digits_listed}
+use Rattle.dotted.proofs.pieces.all_digits.Goals as goal
 
 pub returns : goal.returns
 returns c =

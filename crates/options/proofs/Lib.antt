@@ -1,0 +1,4 @@
+pub mod Cutting
+pub mod Capping
+pub mod Keeping
+pub mod Taking
