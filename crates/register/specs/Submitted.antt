@@ -11,7 +11,6 @@ use Rattle.book.specs.declared.refusal.Refusal as book
 use Rattle.request.specs.Answers.{ok_line, no_line, roll_bytes, answer_bytes, child_of}
 use Rattle.request.specs.Reading.{call_of}
 use Rattle.request.specs.declared.page.PageRefusal.{PageRefusal}
-use Rattle.request.specs.declared.page.PageRefusal.TheVariants.{TooShort}
 use Rattle.request.specs.declared.refusal.Fault.{Fault}
 use Rattle.register.specs.declared.yes.Yes.{Yes}
 use Rattle.register.specs.declared.yes.Yes.TheVariants.{Named, Listed}
@@ -27,7 +26,7 @@ bytes_to rules book bytes page_length = answer_bytes bytes page_length (answer_t
 -- what comes back of a line: that its page is too short, or the bytes that are written on it
 abbrev pub back_of : Result ℕ PageRefusal → List ℕ → Back
 back_of (Ok length) page = written (take length page)
-back_of (Err TooShort) page = too_short
+back_of (Err refusal) page = too_short
 
 -- a line sent on a page of some length, what came back of it, and the book after
 abbrev pub line_exchange : List ℕ → ℕ → Result ℕ PageRefusal → List ℕ → Book → Exchange

@@ -4,3 +4,11 @@ pub mod Ruled
 pub mod Keeping
 pub mod Spending
 pub mod Counts
+pub mod Onwards
+pub mod AtDesk
+pub mod Reordering
+pub mod Places
+pub mod ByLine
+pub mod Served
+pub mod Declining
+pub mod Progress

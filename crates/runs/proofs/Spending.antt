@@ -67,7 +67,7 @@ held_at t held index first = ⊎_elim within past (slice_get_cases held index).1
         absurd (omega (arith, ltb-true _ _ was.0, was.1, it.0))
 
 -- a list is what stands before one of its places, what stands in it, and what stands behind it
-split_at : (held : List Held) (index : ℕ) (one : Held) → slice_get held index ≡ Some one → held ≡ take index held ++ one ∷ drop (index + 1) held
+pub split_at : (held : List Held) (index : ℕ) (one : Held) → slice_get held index ≡ Some one → held ≡ take index held ++ one ∷ drop (index + 1) held
 split_at held index one there =
     sym (take-append-drop index held)
     ∙ ap (λ rest. take index held ++ rest)

@@ -1,9 +1,12 @@
 -- Hands: the Grants that a register has handed out, and what is true of them beside its book.
-use Rattle.std.specs.Prelude.{ℕ, ◌≡◌, Bool, true, false, cond, ◌&&◌, ◌==◌, List, length, position, slice_get, count_by, Some, None, Option}
+use Rattle.std.specs.Prelude.{ℕ, ◌≡◌, Bool, true, false, cond, ◌&&◌, ◌==◌, List, length, position, slice_get, count_by, Some, None, Ok, Err, Option, Result}
 use Rattle.std.specs.List.{list_all}
 use Rattle.std.specs.Option.{option_eq}
 use Rattle.book.specs.Book.{Entry, Book, same, is_at, found}
 use Rattle.book.specs.Grants.{Grant}
+use Rattle.register.specs.declared.grant.Terms.{Terms}
+use Rattle.book.specs.declared.refusal.Refusal.{Refusal}
+use Rattle.book.specs.declared.refusal.Refusal.TheVariants.{NotInHand}
 use Rattle.book.specs.declared.kind.Kind.{Kind}
 use Rattle.book.specs.declared.kind.Kind.TheVariants.{InHand}
 
@@ -65,3 +68,11 @@ pub record Hands (serial : ℕ) (book : Book) (held : List Held) : Type 0 where
   pub own : AllOwn serial book held
   pub each_once : EachOnce book held
   pub as_many : AsMany book held
+
+-- The terms that a Grant for T has: those of what is found for T, where that is in hand; else there is no such Grant.
+abbrev pub terms_in : Option Entry → Result Terms Refusal
+terms_in None = Err NotInHand
+terms_in (Some entry) = cond (in_hand entry) (Ok (record { holder = entry.holder; quota = entry.quota })) (Err NotInHand)
+
+abbrev pub told_terms : List ℕ → Book → Result Terms Refusal
+told_terms t book = terms_in (found t book)

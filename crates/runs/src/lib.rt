@@ -1,2 +1,13 @@
-// Runs of a desk: a register together with the Grants that it has handed out.
+// Runs of a register: a desk keeps the Grants that its register hands out, and makes one call after the other.
 #![tactic(auto)]
+
+pub mod call;
+pub mod desk;
+pub mod held;
+pub mod replaying;
+pub mod sent;
+
+pub use call::{Back, Call};
+pub use desk::Desk;
+pub use replaying::{Replayed, replay};
+pub use sent::{Said, Sent};

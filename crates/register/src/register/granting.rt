@@ -16,7 +16,7 @@ use oid::Identifier;
 
 impl<P: ArcRule, A: ArcRule> Register<P, A> {
     // Puts an offered entry in hand, and gives the Grant for it.
-    pub(crate) fn collect(&mut self, taker: u32, entry: &Identifier) -> Result<Grant, Refusal>
+    pub fn collect(&mut self, taker: u32, entry: &Identifier) -> Result<Grant, Refusal>
         ensures ruling { Follows (ruling (rules_of P.means A.means self.old) (book_of self.old) (collect taker (arcs_of entry.now))) (book_of self.old) (answer_collected result) (book_of self.new) }
         ensures own { IfOk result (λ grant. IsOwn (serial_of self.new) (book_of self.new) (arcs_of entry.now) (grant_of grant)) }
         ensures rest { KeepsRest self.old self.new }
@@ -31,7 +31,7 @@ impl<P: ArcRule, A: ArcRule> Register<P, A> {
     }
 
     // Spends a Grant: its entry becomes open. A Grant that is refused comes back unspent.
-    pub(crate) fn accept(&mut self, grant: Grant) -> Result<Identifier, Unspent>
+    pub fn accept(&mut self, grant: Grant) -> Result<Identifier, Unspent>
         ensures spends { Spends (serial_of self.old) (book_of self.old) (grant_of grant) AcceptGrant (answer_by_grant result) (book_of self.new) }
         ensures named { (t : List ℕ) → IsOwn (serial_of self.old) (book_of self.old) t (grant_of grant)
             → Follows (ruling (rules_of P.means A.means self.old) (book_of self.old) (accept_grant t)) (book_of self.old) (answer_by_grant result) (book_of self.new) }
@@ -42,7 +42,7 @@ impl<P: ArcRule, A: ArcRule> Register<P, A> {
     }
 
     // Spends a Grant: its entry becomes declined. A Grant that is refused comes back unspent.
-    pub(crate) fn decline(&mut self, grant: Grant) -> Result<Identifier, Unspent>
+    pub fn decline(&mut self, grant: Grant) -> Result<Identifier, Unspent>
         ensures spends { Spends (serial_of self.old) (book_of self.old) (grant_of grant) DeclineGrant (answer_by_grant result) (book_of self.new) }
         ensures named { (t : List ℕ) → IsOwn (serial_of self.old) (book_of self.old) t (grant_of grant)
             → Follows (ruling (rules_of P.means A.means self.old) (book_of self.old) (decline_grant t)) (book_of self.old) (answer_by_grant result) (book_of self.new) }

@@ -20,7 +20,7 @@ use request::{Fault, PageRefusal, Request, read, write_first_line};
 impl<P: ArcRule, A: ArcRule> Register<P, A> {
     // Answers one request line, without its end: writes the answer at the front of the page, and tells how long it is. A page that is too
     // short is untouched, and nothing is done.
-    pub(crate) fn submit(&mut self, line: &[u8], page: &mut [u8]) -> Result<usize, PageRefusal>
+    pub fn submit(&mut self, line: &[u8], page: &mut [u8]) -> Result<usize, PageRefusal>
         ensures value { result ≡ cond (has_room (length page.old)) (Ok (length (bytes_to (rules_of P.means A.means self.old) (book_of self.old) line.now (length page.old)))) (Err TooShort) }
         ensures page { has_room (length page.old) ≡ true → OnPage (bytes_to (rules_of P.means A.means self.old) (book_of self.old) line.now (length page.old)) (keeps_beyond (answer_to (rules_of P.means A.means self.old) (book_of self.old) line.now)) page.old page.new }
         ensures untouched { has_room (length page.old) ≡ false → page.new ≡ page.old }

@@ -1,0 +1,93 @@
+-- Calls of Grants as they are served at a desk.
+use Rattle.std.proofs.Common.{◌≡◌, ℕ, suc, ◌<◌, List, [], ◌∷◌, ◌++◌, length, map, take, drop, Some, None, refl, sym, ap, ◌∙◌, subst, arith}
+use Rattle.std.specs.Prelude.{position, slice_get, remove}
+use Rattle.std.specs.List.{slice_index_or}
+use Rattle.std.specs.Option.{option_map}
+use Rattle.std.proofs.lemmas.List.{map_push, map-append, take-map, drop-map, length-map}
+use Rattle.std.proofs.lemmas.Option.{same_Some, slice_get_within, slice_get-get_or, slice_get-map}
+use Rattle.oid.specs.Meaning.{arcs_of}
+use Rattle.oid.specs.declared.identifier.Identifier.{Identifier}
+use Rattle.book.specs.Book.{Book}
+use Rattle.book.specs.Calls.{Call, collect}
+use Rattle.book.specs.Grants.{IsOwn, answer_spent}
+use Rattle.book.specs.Questions.{Rules, ruling, answer, after}
+use Rattle.book.specs.Rulings.{Answer, collected, refused}
+use Rattle.book.specs.Runs.{Sent, done, number, back_at, handed_back, after_made, made_by, Serves}
+use Rattle.book.specs.declared.event.Event.{Event}
+use Rattle.request.specs.RequestLines.{request_lines}
+use Rattle.register.specs.Granted as register
+use Rattle.book.specs.declared.refusal.Refusal.{Refusal}
+use Rattle.register.specs.Granted.{grant_of}
+use Rattle.register.specs.Registers.{book_of, serial_of, Follows}
+use Rattle.register.specs.declared.grant.Grant as code
+use Rattle.runs.specs.Hands.{Held, Hands, is_for}
+use Rattle.runs.specs.Out.{held_of, held_in}
+use Rattle.runs.specs.declared.desk.Desk.{Desk}
+use Rattle.runs.specs.declared.held.Held as out
+use Rattle.runs.proofs.Keeping.{refused_keeps, collected_keeps}
+use Rattle.runs.proofs.Reordering.{out_at, out_without}
+use Rattle.runs.proofs.Spending.{Refuses, Spends, SpendsBoth, spends_at}
+
+-- the same Grants are out where serial and book are the same
+pub hands_along : (serial same : ℕ) (book later : Book) (held : List Held) → same ≡ serial → later ≡ book → Hands serial book held → Hands same later held
+hands_along serial same book later held is leaves hands = subst (λ serial. Hands serial later held) (sym is) (subst (λ book. Hands serial book held) (sym leaves) hands)
+
+module _ (rules : Rules) (serial same : ℕ) (book later : Book) (held : List out.Held) (taker : ℕ) (t : List ℕ)
+    (kept : same ≡ serial) (hands : Hands serial book (held_in held)) where
+  -- after a collect that was refused
+  pub refused_hands : (refusal : Refusal) → Follows (ruling rules book (collect taker t)) book (refused refusal) later → Hands same later (held_in held)
+  refused_hands refusal follows =
+      hands_along serial same (after rules book (collect taker t)) later (held_in held) kept follows.leaves
+      (refused_keeps rules serial book (held_in held) taker t refusal (sym follows.answers) hands)
+
+  -- after one that passed, with the Grant that it gave
+  pub collected_hands : (entry : Identifier) (grant handed : code.Grant) (held_after : List out.Held) → arcs_of entry ≡ t
+      → Follows (ruling rules book (collect taker t)) book (collected grant.holder grant.quota) later
+      → IsOwn same later t (grant_of grant) → handed ≡ grant → held_after ≡ held ++ record { entry = entry; grant = handed } ∷ []
+      → Hands same later (held_in held_after)
+  collected_hands entry grant handed held_after named follows own back more =
+      let own_before : IsOwn serial (after rules book (collect taker t)) t (grant_of grant) =
+      subst (λ serial. IsOwn serial (after rules book (collect taker t)) t (grant_of grant)) kept
+      (subst (λ book. IsOwn same book t (grant_of grant)) follows.leaves own) in
+      let hands_after = collected_keeps rules serial book (held_in held) taker t grant.holder grant.quota (grant_of grant) (sym follows.answers) own_before hands in
+      let list : held_in held_after ≡ held_in held ++ record { identifier = t; grant = grant_of grant } ∷ [] =
+      ap held_in more ∙ map_push held_of held (record { entry = entry; grant = handed })
+      ∙ ap (λ one. held_in held ++ one ∷ []) ((λ i. record { identifier = named i; grant = grant_of (back i) })) in
+      subst (Hands same later) (sym list) (hands_along serial same _ later _ kept follows.leaves hands_after)
+
+-- the Grant that is kept for T, taken out
+module _ (rules : Rules) (serial : ℕ) (book : Book) (held : List out.Held) (t : List ℕ) (place : ℕ) (taken : out.Held) (rest : List out.Held)
+    (hands : Hands serial book (held_in held)) (first : position (is_for t) (held_in held) ≡ Some place)
+    (is : taken ≡ slice_index_or held place taken) (removed : rest ≡ remove held place) where
+  pub spends_taken : (arcs_of taken.entry ≡ t) × SpendsBoth rules serial book (held_of taken) (held_in rest)
+  spends_taken =
+      let there = out_at held t place taken first is in (
+        there.1,
+        subst (λ rest. SpendsBoth rules serial book (held_of taken) rest) (sym (ap held_in removed ∙ out_without held place))
+            (spends_at rules serial book (held_in held) place (held_of taken) hands there.0),
+      )
+
+-- Accepts and declines with a Grant: the call that names T, and what is sent for it.
+module _ (rules : Rules) (serial : ℕ) (book : Book) (call : List ℕ → Call) (sent : List ℕ → Sent)
+    (returns : (t : List ℕ) → back_at request_lines rules book (sent t) ≡ handed_back (answer rules book (call t)))
+    (leaves : (t : List ℕ) → after_made rules book (made_by request_lines (sent t)) ≡ after rules book (call t)) where
+  -- where no Grant is kept for T
+  pub serves_none : (t : List ℕ) → Refuses rules book (call t) → Serves request_lines rules book (record { sent = sent t; back = number 22; book = book })
+  serves_none t refuses = record { answered = ap handed_back (sym refuses.answers) ∙ sym (returns t); leaves = sym (leaves t ∙ refuses.leaves) }
+
+  -- where the one that is kept was spent
+  module _ (one : Held) (rest : List Held) (event : Event) (spends : Spends rules serial book one rest event (call one.identifier)) where
+    pub serves_spent : (t : List ℕ) (told : Answer) (later : Book) → one.identifier ≡ t → register.Spends serial book one.grant event told later
+        → Serves request_lines rules book (record { sent = sent t; back = done; book = later })
+    serves_spent t told later named spent =
+        subst (λ t. Serves request_lines rules book (record { sent = sent t; back = done; book = later })) named (record {
+          answered = ap handed_back (sym spends.answers) ∙ sym (returns one.identifier);
+          leaves = spent.leaves ∙ spends.does.leaves ∙ sym (leaves one.identifier);
+        })
+
+    pub hands_spent : (same : ℕ) (told : Answer) (later : Book) → same ≡ serial → register.Spends serial book one.grant event told later → Hands same later rest
+    hands_spent same told later kept spent = hands_along serial same _ later rest kept (spent.leaves ∙ spends.does.leaves) spends.keeps
+
+    -- it is not refused
+    pub passes : (refusal : Refusal) (later : Book) → register.Spends serial book one.grant event (refused refusal) later → ⊥
+    passes refusal later spent = let z = spent.answers ∙ ap answer_spent spends.spends in cc
