@@ -1,19 +1,19 @@
 -- Calls of Grants as they are served at a desk.
-use Rattle.std.proofs.Common.{◌≡◌, ℕ, suc, ◌<◌, List, [], ◌∷◌, ◌++◌, length, map, take, drop, Some, None, refl, sym, ap, ◌∙◌, subst, arith}
-use Rattle.std.specs.Prelude.{position, slice_get, remove}
+use Rattle.std.proofs.Common.{◌≡◌, ℕ, List, [], ◌∷◌, ◌++◌, Some, sym, ap, ◌∙◌, subst}
+use Rattle.std.specs.Prelude.{position, remove}
 use Rattle.std.specs.List.{slice_index_or}
-use Rattle.std.specs.Option.{option_map}
-use Rattle.std.proofs.lemmas.List.{map_push, map-append, take-map, drop-map, length-map}
-use Rattle.std.proofs.lemmas.Option.{same_Some, slice_get_within, slice_get-get_or, slice_get-map}
+use Rattle.std.proofs.lemmas.List.{map_push}
 use Rattle.oid.specs.Meaning.{arcs_of}
 use Rattle.oid.specs.declared.identifier.Identifier.{Identifier}
 use Rattle.book.specs.Book.{Book}
-use Rattle.book.specs.Calls.{Call, collect}
+use Rattle.book.specs.Calls.{Call, collect, accept_grant, decline_grant}
 use Rattle.book.specs.Grants.{IsOwn, answer_spent}
 use Rattle.book.specs.Questions.{Rules, ruling, answer, after}
 use Rattle.book.specs.Rulings.{Answer, collected, refused}
 use Rattle.book.specs.Runs.{Sent, done, number, back_at, handed_back, after_made, made_by, Serves}
 use Rattle.book.specs.declared.event.Event.{Event}
+use Rattle.book.specs.declared.event.Event.TheVariants.{AcceptGrant, DeclineGrant}
+use Rattle.runs.proofs.AtDesk.{hands_at}
 use Rattle.request.specs.RequestLines.{request_lines}
 use Rattle.register.specs.Granted as register
 use Rattle.book.specs.declared.refusal.Refusal.{Refusal}
@@ -55,39 +55,41 @@ module _ (rules : Rules) (serial same : ℕ) (book later : Book) (held : List ou
       ∙ ap (λ one. held_in held ++ one ∷ []) ((λ i. record { identifier = named i; grant = grant_of (back i) })) in
       subst (Hands same later) (sym list) (hands_along serial same _ later _ kept follows.leaves hands_after)
 
--- the Grant that is kept for T, taken out
-module _ (rules : Rules) (serial : ℕ) (book : Book) (held : List out.Held) (t : List ℕ) (place : ℕ) (taken : out.Held) (rest : List out.Held)
-    (hands : Hands serial book (held_in held)) (first : position (is_for t) (held_in held) ≡ Some place)
-    (is : taken ≡ slice_index_or held place taken) (removed : rest ≡ remove held place) where
-  pub spends_taken : (arcs_of taken.entry ≡ t) × SpendsBoth rules serial book (held_of taken) (held_in rest)
+-- The Grant that is kept for T, taken out: its calls are those that name T, and pass.
+module _ {P A : Type 0} (rules : Rules) (desk : Desk P A) (t : List ℕ) (place : ℕ) (taken : out.Held) (rest : List out.Held)
+    (first : position (is_for t) (held_in desk.held.items) ≡ Some place) (is : taken ≡ slice_index_or desk.held.items place taken)
+    (removed : rest ≡ remove desk.held.items place) where
+  abbrev PassesAs : Event → Call → Type 0
+  PassesAs event call = Spends rules (serial_of desk.register) (book_of desk.register) (held_of taken) (held_in rest) event call
+
+  pub spends_taken : PassesAs AcceptGrant (accept_grant t) × PassesAs DeclineGrant (decline_grant t)
   spends_taken =
-      let there = out_at held t place taken first is in (
-        there.1,
-        subst (λ rest. SpendsBoth rules serial book (held_of taken) rest) (sym (ap held_in removed ∙ out_without held place))
-            (spends_at rules serial book (held_in held) place (held_of taken) hands there.0),
-      )
+      let there = out_at desk.held.items t place taken first is in
+      let both = subst (λ rest. SpendsBoth rules (serial_of desk.register) (book_of desk.register) (held_of taken) rest)
+      (sym (ap held_in removed ∙ out_without desk.held.items place))
+      (spends_at rules (serial_of desk.register) (book_of desk.register) (held_in desk.held.items) place (held_of taken) (hands_at desk) there.0) in
+      (subst (λ t. PassesAs AcceptGrant (accept_grant t)) there.1 both.0, subst (λ t. PassesAs DeclineGrant (decline_grant t)) there.1 both.1)
 
--- Accepts and declines with a Grant: the call that names T, and what is sent for it.
-module _ (rules : Rules) (serial : ℕ) (book : Book) (call : List ℕ → Call) (sent : List ℕ → Sent)
-    (returns : (t : List ℕ) → back_at request_lines rules book (sent t) ≡ handed_back (answer rules book (call t)))
-    (leaves : (t : List ℕ) → after_made rules book (made_by request_lines (sent t)) ≡ after rules book (call t)) where
-  -- where no Grant is kept for T
-  pub serves_none : (t : List ℕ) → Refuses rules book (call t) → Serves request_lines rules book (record { sent = sent t; back = number 22; book = book })
-  serves_none t refuses = record { answered = ap handed_back (sym refuses.answers) ∙ sym (returns t); leaves = sym (leaves t ∙ refuses.leaves) }
+-- where no Grant is kept for T
+pub serves_none : {rules : Rules} {book : Book} {call : Call} (sent : Sent) → Refuses rules book call
+    → back_at request_lines rules book sent ≡ handed_back (answer rules book call)
+    → after_made rules book (made_by request_lines sent) ≡ after rules book call
+    → Serves request_lines rules book (record { sent = sent; back = number 22; book = book })
+serves_none sent refuses returns leaves = record { answered = ap handed_back (sym refuses.answers) ∙ sym returns; leaves = sym (leaves ∙ refuses.leaves) }
 
-  -- where the one that is kept was spent
-  module _ (one : Held) (rest : List Held) (event : Event) (spends : Spends rules serial book one rest event (call one.identifier)) where
-    pub serves_spent : (t : List ℕ) (told : Answer) (later : Book) → one.identifier ≡ t → register.Spends serial book one.grant event told later
-        → Serves request_lines rules book (record { sent = sent t; back = done; book = later })
-    serves_spent t told later named spent =
-        subst (λ t. Serves request_lines rules book (record { sent = sent t; back = done; book = later })) named (record {
-          answered = ap handed_back (sym spends.answers) ∙ sym (returns one.identifier);
-          leaves = spent.leaves ∙ spends.does.leaves ∙ sym (leaves one.identifier);
-        })
+-- where the one that is kept was spent
+module _ {rules : Rules} {serial : ℕ} {book : Book} {one : Held} {rest : List Held} {event : Event} {call : Call}
+    (spends : Spends rules serial book one rest event call) {told : Answer} {later : Book}
+    (spent : register.Spends serial book one.grant event told later) where
+  pub serves_spent : (sent : Sent) → back_at request_lines rules book sent ≡ handed_back (answer rules book call)
+      → after_made rules book (made_by request_lines sent) ≡ after rules book call
+      → Serves request_lines rules book (record { sent = sent; back = done; book = later })
+  serves_spent sent returns leaves =
+      record { answered = ap handed_back (sym spends.answers) ∙ sym returns; leaves = spent.leaves ∙ spends.does.leaves ∙ sym leaves }
 
-    pub hands_spent : (same : ℕ) (told : Answer) (later : Book) → same ≡ serial → register.Spends serial book one.grant event told later → Hands same later rest
-    hands_spent same told later kept spent = hands_along serial same _ later rest kept (spent.leaves ∙ spends.does.leaves) spends.keeps
+  pub hands_spent : (same : ℕ) → same ≡ serial → Hands same later rest
+  hands_spent same kept = hands_along serial same _ later rest kept (spent.leaves ∙ spends.does.leaves) spends.keeps
 
-    -- it is not refused
-    pub passes : (refusal : Refusal) (later : Book) → register.Spends serial book one.grant event (refused refusal) later → ⊥
-    passes refusal later spent = let z = spent.answers ∙ ap answer_spent spends.spends in cc
+  -- it is not refused
+  pub passes : (refusal : Refusal) → told ≡ refused refusal → ⊥
+  passes refusal is = let z = sym is ∙ spent.answers ∙ ap answer_spent spends.spends in cc

@@ -1,11 +1,10 @@
 -- What a desk means, and what is said of runs that led to one.
-use Rattle.std.specs.Prelude.{ℕ, ◌≡◌, List, [], ◌∷◌, ◌++◌, map, Option}
+use Rattle.std.specs.Prelude.{◌≡◌, List, [], ◌∷◌, ◌++◌}
 use Rattle.arc_rules.specs.Rules.{Meaning}
 use Rattle.book.specs.Book.{Book}
 use Rattle.book.specs.Questions.{Rules}
 use Rattle.book.specs.Runs.{Exchange, Runs, book_at_end}
 use Rattle.book.specs.Law.{Start, Begins, Law}
-use Rattle.book.specs.declared.founding.FoundingRefusal.{FoundingRefusal}
 use Rattle.register.specs.Registers as register
 use Rattle.register.specs.declared.register.Register.{Register}
 use Rattle.request.specs.RequestLines.{request_lines}

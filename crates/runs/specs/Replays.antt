@@ -1,5 +1,5 @@
 -- A list of calls and what comes back of them.
-use Rattle.std.specs.Prelude.{ℕ, ◌≡◌, Bool, true, false, List, map, length}
+use Rattle.std.specs.Prelude.{◌≡◌, List, map, length}
 use Rattle.oid.specs.Meaning.{arcs_of}
 use Rattle.book.specs.Book.{Book}
 use Rattle.book.specs.Questions.{Rules}
