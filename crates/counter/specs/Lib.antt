@@ -1,0 +1,5 @@
+pub mod Names
+pub mod Calls
+pub mod Reading
+pub mod Meaning
+pub mod Words
