@@ -16,7 +16,7 @@ takes_text name = codes "takes an identifier, with one space before it"
 
 -- what was expected, and where
 abbrev pub words_of : NoCall → List ℕ
-words_of UnknownName = codes "none of @collect, @accept, @decline, @terms, @left and @tells stands before any space"
+words_of UnknownName = codes "before any space stands none of @collect, @accept, @decline, @terms, @left and @tells"
 words_of (WrongFields name) = name_text name ++ (codes " " ++ takes_text name)
-words_of (NotANumber offset) = codes "a number from 0 to " ++ (decimal most_number ++ (codes " was expected at " ++ decimal offset))
+words_of (NotANumber offset) = codes "a number from 0 to " ++ (decimal most_number ++ (codes " was expected at offset " ++ decimal offset))
 words_of (NotAnIdentifier fault) = codes "an identifier was expected, as 2.999 (" ++ (fault_text fault ++ codes ")")

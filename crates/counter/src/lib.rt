@@ -2,6 +2,7 @@
 #![tactic(auto)]
 
 pub mod call;
+pub mod laws;
 pub mod name;
 pub mod no_call;
 pub mod reader;

@@ -4,7 +4,7 @@ ghost use Rattle.std.specs.Result.{result_map_both};
 ghost use Rattle.oid.specs.Meaning.{arcs_of};
 ghost use Rattle.request.specs.Parts.{part_of, parts_left};
 ghost use Rattle.counter.specs.Meaning.{read_as};
-ghost use Rattle.counter.specs.Reading.{is_counter, collect_in, entry_in, identifier_in, read_call};
+ghost use Rattle.counter.specs.Reading.{is_counter, collect_in, entry_in, number_in, identifier_in, read_call};
 
 use crate::call::CounterCall;
 use crate::name::Name;
@@ -54,7 +54,6 @@ pub fn read(line: &[u8]) -> Result<CounterCall, NoCall>
 }
 
 // A taker and an entry, as the parts that are left.
-#[tactic(auto, unfolding(oid::specs::Arcs::arc_limit))]
 fn collect_in(mut parts: Parts<'_>) -> Result<CounterCall, NoCall>
     ensures { read_as result ≡ collect_in (parts_left parts.entry) }
 {
@@ -64,13 +63,21 @@ fn collect_in(mut parts: Parts<'_>) -> Result<CounterCall, NoCall>
     if !parts.is_done() {
         return Err(wrong);
     }
-    let Some(taker) = numeral(number.text) else {
-        return Err(NoCall::NotANumber {
-            offset: number.offset,
-        });
-    };
+    let taker = number_in(number)?;
     let entry = identifier_in(entry)?;
     Ok(CounterCall::Collect { taker, entry })
+}
+
+// The number that a part of a line is.
+fn number_in(part: Part<'_>) -> Result<u32, NoCall>
+    ensures { result ≡ number_in (part_of part.entry) }
+{
+    let Some(number) = numeral(part.text) else {
+        return Err(NoCall::NotANumber {
+            offset: part.offset,
+        });
+    };
+    Ok(number)
 }
 
 // An entry, as the only part that is left.

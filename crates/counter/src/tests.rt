@@ -74,7 +74,7 @@ fn words(rt: HostRuntime) -> Result<(), Fail> {
         ),
         (
             NoCall::NotANumber { offset: 9 },
-            "a number from 0 to 4294967295 was expected at 9",
+            "a number from 0 to 4294967295 was expected at offset 9",
         ),
         (
             NoCall::NotAnIdentifier(Refusal::LeadingZero.at(8)),

@@ -26,7 +26,7 @@ impl fmt::Display for NoCall {
         match self {
             NoCall::UnknownName => write!(
                 f,
-                "none of @collect, @accept, @decline, @terms, @left and @tells stands before any space"
+                "before any space stands none of @collect, @accept, @decline, @terms, @left and @tells"
             ),
             NoCall::WrongFields(name) => {
                 let takes = takes_text(*name);
@@ -34,7 +34,7 @@ impl fmt::Display for NoCall {
             }
             NoCall::NotANumber { offset } => write!(
                 f,
-                "a number from 0 to {MOST_NUMBER} was expected at {offset}"
+                "a number from 0 to {MOST_NUMBER} was expected at offset {offset}"
             ),
             NoCall::NotAnIdentifier(fault) => write!(
                 f,
