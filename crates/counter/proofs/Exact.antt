@@ -1,5 +1,5 @@
 -- A line is read as a call exactly when it makes it.
-use Rattle.std.proofs.Common.{◌≡◌, ℕ, ◌+◌, ◌<◌, ◌^◌, ◌⊎◌, inl, true, cond, ◌&&◌, leb, List, [], ◌∷◌, ◌++◌, length, Some, None, Ok, Err, Option, Result, decimal, codes, option_and_then, refl, sym, ap, ◌∙◌, subst, arith}
+use Rattle.std.proofs.Common.{◌≡◌, ℕ, ◌+◌, ◌<◌, ◌^◌, ◌⊎◌, inl, true, cond, leb, List, [], ◌∷◌, ◌++◌, length, Some, None, Ok, Err, Option, Result, decimal, option_and_then, refl, sym, ap, ◌∙◌, subst, arith}
 use Rattle.std.specs.List.{join_with_byte, list_all}
 use Rattle.std.specs.Option.{ok_or}
 use Rattle.std.specs.Result.{result_map_both}
@@ -21,7 +21,7 @@ use Rattle.request.proofs.Walking.{part}
 use Rattle.counter.specs.Calls.{Call, collect, accept, decline, terms, left, tells}
 use Rattle.counter.specs.Lines.{entry_of, call_words, is_call, Makes, ReadExactly}
 use Rattle.counter.specs.Names.{names, name_text, name_of}
-use Rattle.counter.specs.Reading.{and_then, most_number, name_in, number_in, identifier_in, entry_in, two_fields, call_by, call_in, read_call}
+use Rattle.counter.specs.Reading.{and_then, most_number, name_in, number_in, identifier_in, entry_in, call_by, call_in, read_call}
 use Rattle.counter.specs.declared.name.Name.{Name}
 use Rattle.counter.specs.declared.name.Name.TheVariants.{Collect, Accept, Decline, Terms, Left, Tells}
 use Rattle.counter.specs.declared.no_call.NoCall.{NoCall}

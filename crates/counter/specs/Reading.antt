@@ -1,5 +1,5 @@
 -- The reading of a counter call: its questions, in order.
-use Rattle.std.specs.Prelude.{ℕ, ◌+◌, Bool, cond, List, [], ◌∷◌, codes, nat_le, Some, None, Ok, Err, Option, Result}
+use Rattle.std.specs.Prelude.{ℕ, ◌+◌, Bool, cond, List, [], ◌∷◌, codes, nat_le, Some, None, Ok, Err, Result}
 use Rattle.std.specs.Option.{option_and_then, ok_or}
 use Rattle.std.specs.Result.{result_map_both}
 use Rattle.oid.specs.Refusals.{fault_at}

@@ -4,7 +4,7 @@ use Rattle.oid.specs.Words.{fault_text}
 use Rattle.counter.specs.Names.{name_text}
 use Rattle.counter.specs.Reading.{most_number}
 use Rattle.counter.specs.declared.name.Name.{Name}
-use Rattle.counter.specs.declared.name.Name.TheVariants.{Collect, Accept, Decline, Terms, Left, Tells}
+use Rattle.counter.specs.declared.name.Name.TheVariants.{Collect, Tells}
 use Rattle.counter.specs.declared.no_call.NoCall.{NoCall}
 use Rattle.counter.specs.declared.no_call.NoCall.TheVariants.{UnknownName, WrongFields, NotANumber, NotAnIdentifier}
 

@@ -1,5 +1,5 @@
 -- Numbers of fields.
-use Rattle.std.proofs.Common.{◌≡◌, ℕ, ◌<◌, Bool, false, cond, ◌&&◌, leb, List, [], ◌∷◌, Some, None, Option, refl, ap, ◌∙◌, sym, ⊎_elim, arith}
+use Rattle.std.proofs.Common.{◌≡◌, ℕ, ◌<◌, Bool, false, cond, leb, Some, None, Option, refl, ap, ◌∙◌, sym, ⊎_elim, arith}
 use Rattle.std.specs.Option.{option_and_then}
 use Rattle.std.proofs.lemmas.Bool.{cases_lt, cond-false, lt-leb, and_right}
 use Rattle.oid.specs.Arcs.{arc_limit, arc_of}
