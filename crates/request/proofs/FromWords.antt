@@ -70,7 +70,7 @@ numbered _ _ offset (one_more {sort} {form} {number} {numbers} r more) =
     }
 
 -- an identifier is read from its text, be the prefix before it or not
-identifier_read : (before arcs : List ℕ) → (before ≡ []) ⊎ (before ≡ prefix) → is_identifier arcs ≡ true
+pub identifier_read : (before arcs : List ℕ) → (before ≡ []) ⊎ (before ≡ prefix) → is_identifier arcs ≡ true
     → read_dotted (before ++ dotted_text arcs) ≡ Ok arcs
 identifier_read before arcs p h =
     let text = dotted_text arcs in

@@ -125,21 +125,23 @@ verb_found Decline = refl
 verb_found Retire = refl
 verb_found Roll = refl
 
--- and a word that is a verb is the verb's text
-pub verb_written : (word : List ℕ) (verb : Verb) → verb_of word ≡ Some verb → verb_text verb ≡ word
-verb_written word verb is = same_text (verb_text verb) word (sym (found verbs is))
+-- what is told by a word, among things that each have a text, has the word for its text
+pub told_written : {A : Type 0} (text : A → List ℕ) (things : List A) (word : List ℕ) (thing : A)
+    → find (λ a. pointwise eqb (text a) word) things ≡ Some thing → text thing ≡ word
+told_written text [] word thing is = absurd (none-some _ is)
+told_written {A} text (first ∷ things) word thing is = go (test first) refl (told_written text things word thing) is
   where
-    test : Verb → Bool
-    test v = pointwise eqb (verb_text v) word
+    test : A → Bool
+    test a = pointwise eqb (text a) word
 
-    found : (list : List Verb) → find test list ≡ Some verb → test verb ≡ true
-    found [] e = absurd (none-some _ e)
-    found (v ∷ list) e = go (test v) refl (found list) e
-      where
-        go : (b : Bool) → test v ≡ b → (find test list ≡ Some verb → test verb ≡ true)
-            → cond b (Some v) (find test list) ≡ Some verb → test verb ≡ true
-        go true same others f = ap test (sym (same_Some _ _ f)) ∙ same
-        go false same others f = others f
+    go : (b : Bool) → test first ≡ b → (find test things ≡ Some thing → text thing ≡ word)
+        → cond b (Some first) (find test things) ≡ Some thing → text thing ≡ word
+    go true same others e = ap text (sym (same_Some _ _ e)) ∙ same_text (text first) word (sym same)
+    go false same others e = others e
+
+-- so a word that is a verb is the verb's text
+pub verb_written : (word : List ℕ) (verb : Verb) → verb_of word ≡ Some verb → verb_text verb ≡ word
+verb_written word verb is = told_written verb_text verbs word verb is
 
 -- a number in the range of its sort has 64 bits
 pub range_fits : (sort : Sort) (number : ℕ) → in_range sort number ≡ true → number < 2 ^ 64
@@ -161,17 +163,20 @@ pub number_read : (sort : Sort) (offset number : ℕ) → in_range sort number �
 number_read sort offset number h =
     ap (option_and_then (λ n. cond (in_range sort n) (Some n) None)) (numeral_read number (range_fits sort number h)) ∙ cond-true (in_range sort number) _ None h
 
--- and a field that is read as a number has the number's decimal text
+-- a text that is read as a number of 64 bits is its decimal text
+pub numeral_written : (text : List ℕ) (number : ℕ) → numeral text ≡ Some number → number < 2 ^ 64 → text ≡ decimal number
+numeral_written text number is small =
+    let value = cond_some (is_numeral text) (decimal_value text) number is in
+    let some = and_parts (ltb 0 (length text)) _ value.0 in
+    let digits = and_parts (all_ascii_digits text) _ some.1 in
+    let fits : decimal_value text < 2 ^ 64 = omega (arith, value.1, small) in
+    sym (written_again text digits.0 (ltb-true 0 (length text) some.0) (not-true _ digits.1) fits) ∙ ap decimal value.1
+
+-- so is a field that is read as a number
 pub number_written : (f : Field) (number : ℕ) → number_in f ≡ Some number
     → (in_range f.sort number ≡ true) × (f.part.text ≡ decimal number)
 number_written f number is =
     option_and_then_some (λ n. cond (in_range f.sort n) (Some n) None) (numeral f.part.text) number is (λ n read e.
     let inside = cond_some (in_range f.sort n) n number e in
-    let value = cond_some (is_numeral f.part.text) (decimal_value f.part.text) n read in
-    let same : decimal_value f.part.text ≡ number = value.1 ∙ inside.1 in
     let ranged : in_range f.sort number ≡ true = ap (in_range f.sort) (sym inside.1) ∙ inside.0 in
-    let some = and_parts (ltb 0 (length f.part.text)) _ value.0 in
-    let digits = and_parts (all_ascii_digits f.part.text) _ some.1 in
-    let fits : decimal_value f.part.text < 2 ^ 64 = omega (arith, same, range_fits f.sort number ranged) in
-    let text = written_again f.part.text digits.0 (ltb-true 0 (length f.part.text) some.0) (not-true _ digits.1) fits in
-    (ranged, sym text ∙ ap decimal same))
+    (ranged, numeral_written f.part.text number (read ∙ ap Some inside.1) (range_fits f.sort number ranged)))

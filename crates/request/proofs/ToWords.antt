@@ -106,7 +106,7 @@ numbers_written (f ∷ fields) numbers is =
     (subst (InRanges (f.sort ∷ map (λ g. g.sort) fields)) same (one_more one.0 rest.0), (λ k. one.1 k ∷ rest.1 k) ∙ ap (map decimal) same)
 
 -- what is read as an identifier is the identifier's text, with the prefix before it or without
-identifier_written : (text arcs : List ℕ) → read_dotted text ≡ Ok arcs
+pub identifier_written : (text arcs : List ℕ) → read_dotted text ≡ Ok arcs
     → (is_identifier arcs ≡ true) × ((before : List ℕ) × ((before ≡ []) ⊎ (before ≡ prefix)) × (text ≡ before ++ dotted_text arcs))
 unfolding prefix_length
 identifier_written text arcs is = (writes.0, go (begins_with text prefix) refl writes.1)

@@ -1,5 +1,5 @@
 // The parts of a line that its spaces leave.
-ghost use Rattle.std.specs.Prelude.{◌≡◌, length, nat_eq};
+ghost use Rattle.std.specs.Prelude.{◌≡◌, ◌+◌, ◌≤◌, length, nat_eq, IfSome};
 ghost use Rattle.std.specs.Iterator.{YieldsFirstBy};
 ghost use Rattle.std.specs.Option.{option_map};
 ghost use Rattle.request.specs.Parts.{part_of, parts_left, FillsNext};
@@ -7,26 +7,28 @@ ghost use Rattle.request.specs.Parts.{part_of, parts_left, FillsNext};
 use dotted::pieces::first_piece;
 
 // The byte between parts.
-pub(crate) const SPACE: u8 = b' ';
+pub const SPACE: u8 = b' ';
 
 // A part of a line, and where in the line it begins.
 #[derive(Clone, Copy)]
-pub(crate) struct Part<'a> {
-    pub(crate) text: &'a [u8],
-    pub(crate) offset: usize,
+pub struct Part<'a> {
+    pub text: &'a [u8],
+    pub offset: usize,
 }
 
 // The parts of a line from a place on. Behind the last one the place lies past the line's end.
 #[derive(Drop)]
-pub(crate) struct Parts<'a> {
-    pub(crate) line: &'a [u8],
-    pub(crate) place: usize,
+pub struct Parts<'a> {
+    pub line: &'a [u8],
+    pub place: usize,
 }
 
 impl<'a> Parts<'a> {
     // The next part, if one is left.
-    pub(crate) fn next_part(&mut self) -> Option<Part<'a>>
-        ensures { YieldsFirstBy part_of parts_left self.old result self.new }
+    pub fn next_part(&mut self) -> Option<Part<'a>>
+        ensures yields { YieldsFirstBy part_of parts_left self.old result self.new }
+        ensures within { IfSome result (λ part. part.offset + length part.text.now ≤ length self.old.line.now) }
+        ensures same_line { self.new.line ≡ self.old.line }
     {
         let text = first_piece(self.line.get(self.place..)?, SPACE);
         let offset = self.place;
@@ -44,7 +46,7 @@ impl<'a> Parts<'a> {
     }
 
     // Whether no part is left.
-    pub(crate) fn is_done(&self) -> bool
+    pub fn is_done(&self) -> bool
         ensures { result ≡ nat_eq (length (parts_left self.now)) 0 }
     {
         self.place > self.line.len()

@@ -5,8 +5,8 @@ use Rattle.request.specs.Fields.{is_space}
 use Rattle.request.proofs.Walking.{next_part}
 use Rattle.request.proofs.part.Parts.next_part.Goals as goal
 
-pub returns : goal.returns
-returns c =
+pub returns-clause-yields : goal.returns-clause-yields
+returns-clause-yields c =
     let line = c.args.self.now.line.now in
     let place = c.args.self.now.place in
     let rest = c.in_ok-get.ensures.lookup.0.2 ∙ between_to_end line place (length line) (omega arith) in
