@@ -44,18 +44,20 @@ one_more start rules rules_after book after taken said said_after call answer so
     let exchange = replayed call answer after in
     record {
       run = so_far.run ++ exchange ∷ [];
-      led = subst (λ rules. LedTo start (so_far.run ++ exchange ∷ []) rules after) stay (law_kept rules book exchange served start so_far.run so_far.led).led;
+      led = subst (λ rules. LedTo start (so_far.run ++ exchange ∷ []) rules after) stay
+          (law_kept rules book exchange served start so_far.run so_far.led).led;
       sent = map-append (λ exchange. exchange.sent) so_far.run (exchange ∷ []) ∙ ap (λ l. l ++ sent_by call ∷ []) so_far.sent
           ∙ sym (map-append sent_by taken (call ∷ []));
       back = map-append (λ exchange. exchange.back) so_far.run (exchange ∷ []) ∙ ap (λ l. l ++ back_by answer ∷ []) so_far.back
           ∙ sym (map-append back_by said (answer ∷ [])) ∙ ap (map back_by) (sym pushed);
     }
 
--- what was taken, and what is left
+-- the calls taken, with those that are left, stay all that there are
 pub taken_more : (taken left later calls : List code.Sent) (call : code.Sent) → taken ++ left ≡ calls → left ≡ call ∷ later
     → (taken ++ call ∷ []) ++ later ≡ calls
 taken_more taken left later calls call all next = append_assoc taken (call ∷ []) later ∙ ap (λ l. taken ++ l) (sym next) ∙ all
 
+-- where none is left, all are taken
 pub all_taken : (taken left calls : List code.Sent) → taken ++ left ≡ calls → length left ≡ 0 → taken ≡ calls
 all_taken taken left calls all none = sym (append-nil taken) ∙ ap (λ l. taken ++ l) (sym (nil_from_length left none)) ∙ all
 

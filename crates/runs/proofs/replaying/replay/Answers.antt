@@ -23,8 +23,8 @@ loop-call-preserved g c =
     let rest = c.send.ensures.rest in
     let pushed = c.push_reserved.ensures in
     record {
-      so_far = one_more _ _ _ _ _ c.loop-call.yielded c.loop-call.said.items _ c.in-Some.call c.send.result before.so_far c.send.ensures.serves
-          (same_rules g.P.ArcRule.means g.A.ArcRule.means c.loop-call.desk c.send.new.desk rest) pushed.items;
+      so_far = one_more _ _ _ _ _ c.loop-call.yielded c.loop-call.said.items c.push_reserved.new.self.items c.in-Some.call c.send.result
+          before.so_far c.send.ensures.serves (same_rules g.P.ArcRule.means g.A.ArcRule.means c.loop-call.desk c.send.new.desk rest) pushed.items;
       left = taken_more c.loop-call.yielded _ _ _ c.in-Some.call before.left steps.0;
       room = omega (arith, before.room, steps.1, pushed.len, pushed.capacity);
       serial = rest.serial ∙ before.serial;
@@ -35,4 +35,5 @@ pub returns-clause-replays : goal.returns-clause-replays
 returns-clause-replays g c =
     let left = c.loop-call.call-iterator.rest in
     let before = c.loop-call.invariant in
-    all_sent _ _ _ c.loop-call.yielded _ _ before.so_far (all_taken c.loop-call.yielded left.items _ before.left (sym left.ok.0 ∙ c.in-None.ensures.steps.0))
+    all_sent _ _ _ c.loop-call.yielded _ _ before.so_far
+    (all_taken c.loop-call.yielded left.items _ before.left (sym left.ok.0 ∙ c.in-None.ensures.steps.0))
