@@ -8,6 +8,7 @@ use Rattle.book.specs.Runs.{Lines, placed, made_by, back_at, after_made, Exchang
 use Rattle.book.specs.Law.{is_within, elsewhere, sent_elsewhere, outside, SameElsewhere}
 use Rattle.book.proofs.Room.{HasRoom, RoomAlong}
 use Rattle.book.proofs.Exchanges.{within-unseen, elsewhere-same}
+use Rattle.book.proofs.Unfelt.{told_left-same}
 
 module _ (lines : Lines) (x : List ℕ) (long : 2 ≤ length x) where
   -- an exchange elsewhere was served at some book that is the same as this one, seen from outside X
@@ -85,4 +86,4 @@ pub neighbours : (lines : Lines) (one other : Rules) (book : Book) (x : List ℕ
 neighbours lines one other book x long panels authorities run others runs runs_too room room_too sent =
     let same = chains_agree lines x long one other panels authorities book book _ _ (elsewhere lines x run) (elsewhere lines x others) refl
     (run_chain lines x long one book run runs room) (run_chain lines x long other book others runs_too room_too) sent in
-    record { answers = same.0; entries = λ identifier. ap (found identifier) same.1 }
+    record { answers = same.0; entries = λ identifier. ap (found identifier) same.1; left = told_left-same x long _ _ same.1 }

@@ -1,12 +1,12 @@
 -- What a call that is not placed at or below X comes to, at two books that are the same seen from outside X.
-use Rattle.std.proofs.Common.{◌≡◌, ℕ, ◌+◌, ◌-◌, ◌≤◌, Bool, true, false, List, length, Some, None, Option, nat_le, nat_lt, refl, sym, ap, ◌∙◌, arith, ◌==◌}
+use Rattle.std.proofs.Common.{◌≡◌, ℕ, ◌+◌, ◌-◌, ◌≤◌, Bool, true, false, cond, List, length, Some, None, Ok, Err, Option, nat_le, nat_lt, refl, sym, ap, ◌∙◌, arith, ◌==◌}
 use Rattle.std.specs.Option.{option_and_then}
 use Rattle.std.proofs.lemmas.Bool.{and_left, leb-true, lt-ltb}
 use Rattle.oid.specs.Tree.{parent_of, at_or_below, below, most_arcs}
 use Rattle.arc_rules.specs.Laws.{SameArcs}
-use Rattle.book.specs.Kinds.{is_open, next_kind}
+use Rattle.book.specs.Kinds.{is_authority, is_open, next_kind}
 use Rattle.book.specs.Book.{Entry, Book, most_entries, found, parent_in, children}
-use Rattle.book.specs.Left.{used, left}
+use Rattle.book.specs.Left.{used, left, left_of, told_left}
 use Rattle.book.specs.Order.{in_order, from_arc}
 use Rattle.book.specs.Calls.{Call, grant, claim, offer, accept, decline, retire, roll, collect, accept_grant, decline_grant, place_of}
 use Rattle.book.specs.Rulings.{enters, turns, tells, Answer, named, listed, ask, there_is}
@@ -43,6 +43,17 @@ module _ (x : List ℕ) (long : 2 ≤ length x) (book second : Book) (agree : ou
   left-same : (authority : Entry) → at_or_below authority.identifier x ≡ false → left authority book ≡ left authority second
   unfolding left
   left-same authority out = ap (λ below. authority.quota - used below) (children-same authority.identifier out)
+
+  pub told_left-same : (o : List ℕ) → at_or_below o x ≡ false → told_left o book ≡ told_left o second
+  told_left-same o out = go (found o book) refl
+    where
+      go : (there : Option Entry) → found o book ≡ there → told_left o book ≡ told_left o second
+      go None is = ap (λ there. left_of there book) is ∙ ap (λ there. left_of there second) (sym is ∙ found_place-same o out)
+      go (Some entry) is =
+          ap (λ there. left_of there book) is
+          ∙ ap (λ left. cond (is_authority entry.kind) (Ok left) (Err WrongKind))
+          (left-same entry (ap (λ identifier. at_or_below identifier x) (found_identifier o book entry is) ∙ out))
+          ∙ ap (λ there. left_of there second) (sym is ∙ found_place-same o out)
 
   turning-same : (t : List ℕ) (event : Event) (right rightly : Entry → Bool) (answer : Entry → Answer) → is_within x (parent_of t) ≡ false
       → ((entry : Entry) → right entry ≡ rightly entry) → turning book t event right answer ≡ turning second t event rightly answer

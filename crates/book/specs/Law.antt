@@ -56,10 +56,12 @@ sent_elsewhere lines x run = map (λ exchange. exchange.sent) (elsewhere lines x
 abbrev pub outside : List ℕ → Book → Book
 outside x book = filter (λ entry. not (below entry.identifier x)) book
 
--- the answers elsewhere are the same, in order, and so are the entries that are not below X
+-- The answers elsewhere are the same, in order; so are the entries that are not below X, and what the register tells that others have left.
 pub record SameElsewhere (lines : Lines) (x : List ℕ) (book other : Book) (run others : List Exchange) : Type 0 where
   pub answers : map (λ exchange. exchange.back) (elsewhere lines x run) ≡ map (λ exchange. exchange.back) (elsewhere lines x others)
   pub entries : SameEntries (outside x (book_at_end book run)) (outside x (book_at_end other others))
+  pub left : (authority : List ℕ) → at_or_below authority x ≡ false
+      → told_left authority (book_at_end book run) ≡ told_left authority (book_at_end other others)
 
 -- the set of the rule for a gift's kind
 abbrev pub set_for : Rules → Option ℕ → ArcSet
@@ -101,7 +103,7 @@ all_given lines start run = start.given_before ++ gifts lines run
 -- What holds of a run from a start.
 pub record Law (lines : Lines) (start : Start) (run : List Exchange) : Type 0 where
   -- For every identifier X, and every second run from a start alike that sent the same calls in the same order, apart from calls placed
-  -- at or below X: the other calls got the same answers, and the entries not below X are the same.
+  -- at or below X: the other calls got the same answers, the entries not below X are the same, and so is what the register tells of all others.
   pub neighbours_unfelt : (x : List ℕ) → is_identifier x ≡ true
       → (other : Start) → Alike start other → (others : List Exchange) → Runs lines other.rules other.book others
       → sent_elsewhere lines x run ≡ sent_elsewhere lines x others

@@ -42,14 +42,18 @@ claimed rule arc children others = ask NoArc (in_set rule.set arc) (ask ArcTaken
 abbrev pub entering : Book → Entry → Ruling
 entering book entry = ask BookFull (nat_lt (length book) most_entries) (enters entry)
 
--- What grant, claim and offer share. After 14 to 16: 17. Has the new identifier at most 16 arcs? 18. Has O left what is needed?
--- 19 and 20 find the arc, and 21 comes last.
-abbrev pub giving : Book → ℕ → List ℕ → ℕ → Finder → (Entry → ℕ → Entry) → Ruling
-giving book holder o needed find_arc made =
+-- What whoever gives is asked: after 14 to 16, 17. Has the new identifier at most 16 arcs? 18. Has O left what is needed?
+abbrev pub as_giver : Book → ℕ → List ℕ → ℕ → (Entry → Ruling) → Ruling
+as_giver book holder o needed others =
     as_holder book holder o (λ authority.
     ask TooDeep (nat_le (length o + 1) most_arcs) (
-    ask TooLittleLeft (nat_le needed (left authority book)) (
-    find_arc (children o book) (λ arc. entering book (made authority arc)))))
+    ask TooLittleLeft (nat_le needed (left authority book)) (others authority)))
+
+-- What grant, claim and offer share. After 14 to 18, 19 and 20 find the arc, and 21 comes last.
+abbrev pub giving : Book → ℕ → List ℕ → ℕ → Finder → (Entry → ℕ → Entry) → Ruling
+giving book holder o needed find_arc made =
+    as_giver book holder o needed (λ authority.
+    find_arc (children o book) (λ arc. entering book (made authority arc)))
 
 -- a new panel, whose holder is its parent's
 abbrev pub panel_below : List ℕ → Entry → ℕ → Entry

@@ -16,7 +16,7 @@ pub data Sent : Type 0 where
   accepts_grant : List ℕ → Sent
   declines_grant : List ℕ → Sent
 
--- What comes back: for a line that its page is too short, or the bytes that are written; for the other calls a Grant's holder and quota,
+-- What comes back: for a line that its page is too short, which is 9, or the bytes that are written; for the other calls a Grant's holder and quota,
 -- that it is done, or the number of a refusal.
 pub data Back : Type 0 where
   too_short : Back
@@ -81,17 +81,21 @@ abbrev pub line_answer : Option Answer → LineAnswer
 line_answer None = unread
 line_answer (Some answer) = by_call answer
 
--- what comes back of an answer to a call that no line makes
+-- What comes back of an answer to a call that no line makes. A roll never comes here.
 abbrev pub handed_back : Answer → Back
 handed_back (refused refusal) = number (number_of refusal)
 handed_back (named identifier) = done
 handed_back (listed identifier children) = done
 handed_back (collected holder quota) = handed holder quota
 
+-- the rules' answer to a line at a book
+abbrev pub answer_to : Lines → Rules → Book → List ℕ → LineAnswer
+answer_to lines rules book bytes = line_answer (option_map (answer rules book) (lines.call_of bytes))
+
 -- what the rules send back at a book
 abbrev pub back_at : Lines → Rules → Book → Sent → Back
 back_at lines rules book (line bytes page) =
-    cond (lines.has_room page) (written (lines.bytes_of bytes page (line_answer (option_map (answer rules book) (lines.call_of bytes))))) too_short
+    cond (lines.has_room page) (written (lines.bytes_of bytes page (answer_to lines rules book bytes))) too_short
 back_at lines rules book (collects taker t) = handed_back (answer rules book (collect taker t))
 back_at lines rules book (accepts_grant t) = handed_back (answer rules book (accept_grant t))
 back_at lines rules book (declines_grant t) = handed_back (answer rules book (decline_grant t))

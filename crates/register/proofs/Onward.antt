@@ -14,7 +14,7 @@ use Rattle.book.specs.Book.{Entry, is_child, children, arc_of_child}
 use Rattle.book.specs.Order.{in_order, from_arc, next_child}
 use Rattle.book.proofs.Rolling.{Earlier, Ascending, all_in_order, ascending_in_order}
 use Rattle.register.specs.Kept.{entry_of, book_in}
-use Rattle.register.specs.Submitted.{shown}
+use Rattle.register.specs.Yes.{shown}
 use Rattle.register.specs.declared.row.Row.{Row}
 
 all_from : (from : ℕ) (listed : List Entry) → All (λ child. from ≤ arc_of_child child) listed → from_arc from listed ≡ listed

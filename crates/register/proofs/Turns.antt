@@ -12,7 +12,7 @@ use Rattle.book.specs.declared.event.Event.{Event}
 use Rattle.book.specs.declared.kind.Kind.{Kind}
 use Rattle.book.specs.declared.refusal.Refusal.TheVariants.{NotInBook, WrongKind, NotHolder}
 use Rattle.book.proofs.OwnGrants.{turned_in_row, found_in_row}
-use Rattle.register.specs.Asked.{Stands}
+use Rattle.register.specs.Asked.{StandsFirst}
 use Rattle.register.specs.Kept.{entry_of}
 use Rattle.register.specs.Registers.{Follows}
 use Rattle.register.specs.declared.standing.Standing.{Standing}
@@ -27,7 +27,7 @@ pub none_is : {A : Type 0} (thing : Option A) → is_some thing ≡ false → th
 none_is None h = refl
 none_is (Some found) h = absurd cc
 
-module _ (book : Book) (t : List ℕ) (event : Event) (standing : Standing) (stands : Stands book t event standing) where
+module _ (book : Book) (t : List ℕ) (event : Event) (standing : Standing) (stands : StandsFirst book t event standing) where
   abbrev entry : Entry
   entry = entry_of standing.row
 

@@ -1,15 +1,12 @@
--- How the code asks the book's questions one after the other.
-use Rattle.std.specs.Prelude.{ℕ, ◌+◌, ◌≡◌, true, Ok, Err, Some, List, Result, length, nat_le, is_some, position, slice_get}
-use Rattle.oid.specs.Tree.{most_arcs}
+-- For the contracts of private functions: how the code asks the book's questions, one after the other.
+use Rattle.std.specs.Prelude.{ℕ, ◌≡◌, true, Ok, Err, Some, List, Result, is_some, position, slice_get}
 use Rattle.book.specs.Book.{Entry, Book, is_at, found}
 use Rattle.book.specs.Kinds.{next_kind}
-use Rattle.book.specs.Left.{left}
-use Rattle.book.specs.Rulings.{Answer, refused, Ruling, refuses, ask, there_is}
-use Rattle.book.specs.Questions.{as_holder}
+use Rattle.book.specs.Rulings.{Answer, refused, Ruling, refuses, there_is}
 use Rattle.book.specs.declared.event.Event.{Event}
 use Rattle.book.specs.declared.kind.Kind.{Kind}
 use Rattle.book.specs.declared.refusal.Refusal.{Refusal}
-use Rattle.book.specs.declared.refusal.Refusal.TheVariants.{NotInBook, WrongKind, TooDeep, TooLittleLeft}
+use Rattle.book.specs.declared.refusal.Refusal.TheVariants.{NotInBook, WrongKind}
 use Rattle.register.specs.Kept.{entry_of}
 use Rattle.register.specs.declared.row.Row.{Row}
 use Rattle.register.specs.declared.standing.Standing.{Standing}
@@ -19,15 +16,8 @@ abbrev pub with_row : Result Row Refusal → (Entry → Ruling) → Ruling
 with_row (Ok row) others = others (entry_of row)
 with_row (Err refusal) others = refuses refusal
 
--- 14 to 18, the questions of whoever gives: 14 to 16; 17, has the new identifier at most 16 arcs? 18, has O left what is needed?
-abbrev pub as_giver : Book → ℕ → List ℕ → ℕ → (Entry → Ruling) → Ruling
-as_giver book holder o needed others =
-    as_holder book holder o (λ authority.
-    ask TooDeep (nat_le (length o + 1) most_arcs) (
-    ask TooLittleLeft (nat_le needed (left authority book)) (others authority)))
-
--- An entry stands in its book: it is in the first row with the identifier. And its kind is one that the event changes.
-pub record Stands (book : Book) (t : List ℕ) (event : Event) (standing : Standing) : Type 0 where
+-- An entry stands in its book: it is in the first row with the identifier, and its kind is one that the event changes.
+pub record StandsFirst (book : Book) (t : List ℕ) (event : Event) (standing : Standing) : Type 0 where
   pub first : position (is_at t) book ≡ Some standing.number
   pub row : slice_get book standing.number ≡ Some (entry_of standing.row)
   pub changes : is_some (next_kind standing.row.kind event) ≡ true

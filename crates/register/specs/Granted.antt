@@ -25,7 +25,8 @@ abbrev pub answer_by_grant : Result Identifier Unspent → Answer
 answer_by_grant (Ok identifier) = named (arcs_of identifier)
 answer_by_grant (Err unspent) = refused unspent.refusal
 
--- A call with a Grant comes to question 22, and to what follows a yes.
+-- The answer to a call with any Grant is what question 22 comes to, and the Grant's row then has what its entry becomes; after a no the book
+-- stays as it was.
 pub record Spends (serial : ℕ) (before : Book) (grant : Grant) (event : Event) (answer : Answer) (after : Book) : Type 0 where
   pub answers : answer ≡ answer_spent (spent serial before grant event)
   pub leaves : after ≡ with_entry grant.row (spent serial before grant event) before

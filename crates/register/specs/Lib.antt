@@ -1,5 +1,6 @@
 pub mod Kept
 pub mod Registers
-pub mod Asked
 pub mod Granted
 pub mod Submitted
+pub mod Asked
+pub mod Yes

@@ -12,7 +12,7 @@ pub struct Grant {
     pub(crate) quota: u32,
 }
 
-// The terms of a Grant: who may spend it, and the quota that comes with it.
+// The terms of a Grant: the holder whom the offer named, and the quota that was offered.
 #[derive(Clone, Copy, PartialEq, Eq, Debug)]
 pub struct Terms {
     pub holder: u32,

@@ -1,5 +1,5 @@
-// The register of identifiers: how it is founded, what it tells, and what its calls will find, count and change in its rows. What the
-// book means, and what holds of every run, stands in `book`.
+// The register: founded, sent request lines, Grants collected and spent, and what it tells. What the book means, and what holds of every run,
+// stands in `book`.
 #![tactic(auto)]
 
 pub mod founding;

@@ -17,7 +17,7 @@ use Rattle.register.specs.Registers.{book_of, serial_of, KeepsRest}
 use Rattle.register.specs.declared.register.Register.{Register}
 use Rattle.runs.specs.Hands.{Held, in_hand, Hands}
 use Rattle.runs.specs.Out.{held_of, held_in}
-use Rattle.runs.specs.Closing.{Declined, Closes}
+use Rattle.runs.specs.Closing.{PassedDecline, Closes}
 use Rattle.runs.specs.declared.held.Held as code
 use Rattle.runs.proofs.Spending.{spends_last}
 use Rattle.runs.proofs.Counts.{none_out}
@@ -28,13 +28,13 @@ pub record Declines (rules : Rules) (serial : ℕ) (before now : Book) (held : L
   pub run : List Exchange
   pub runs : Runs request_lines rules before run
   pub ends : book_at_end before run ≡ now
-  pub declines : All Declined run
+  pub declines : All PassedDecline run
   pub as_many : length run + length held ≡ count_by in_hand before
   pub hands : Hands serial now held
 
 pub none_yet : (rules : Rules) (serial : ℕ) (book : Book) (held : List Held) → Hands serial book held → Declines rules serial book book held
 none_yet rules serial book held hands =
-    record { run = []; runs = tt; ends = refl; declines = All-nil Declined; as_many = omega (arith, hands.as_many); hands = hands }
+    record { run = []; runs = tt; ends = refl; declines = All-nil PassedDecline; as_many = omega (arith, hands.as_many); hands = hands }
 
 -- one more: it is answered by the name of what it is for
 one_more : (rules : Rules) (serial : ℕ) (before now later : Book) (held rest : List Held) (one : Held) (answer : Answer)
@@ -53,7 +53,7 @@ one_more rules serial before now later held rest one answer so_far is spends =
         runs = runs_more request_lines rules before so_far.run exchange so_far.runs
             (subst (λ book. Serves request_lines rules book exchange) (sym so_far.ends) served);
         ends = end_more before so_far.run exchange;
-        declines = All-push Declined so_far.run exchange so_far.declines (record { identifier = t; sent = refl; back = refl });
+        declines = All-push PassedDecline so_far.run exchange so_far.declines (record { identifier = t; sent = refl; back = refl });
         as_many = omega (arith, so_far.as_many, length_push so_far.run exchange, long, length_push rest one);
         hands = subst (λ book. Hands serial book rest) (sym leaves) passes.keeps;
       },

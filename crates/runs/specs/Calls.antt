@@ -4,10 +4,11 @@ use Rattle.oid.specs.Meaning.{arcs_of}
 use Rattle.book.specs.Book.{Book}
 use Rattle.book.specs.Questions.{Rules}
 use Rattle.book.specs.Refusals.{number_of}
-use Rattle.book.specs.Runs.{Sent, line, collects, accepts_grant, declines_grant, too_short, written, handed, done, number, Exchange}
+use Rattle.book.specs.Runs.{Sent, line, collects, accepts_grant, declines_grant, too_short, written, handed, done, number, answer_to, Exchange}
 use Rattle.book.specs.Runs as book
 use Rattle.request.specs.Limits.{has_room}
-use Rattle.register.specs.Submitted.{answer_to, bytes_to, keeps_beyond, OnPage}
+use Rattle.request.specs.RequestLines.{request_lines}
+use Rattle.register.specs.Submitted.{bytes_to, keeps_beyond, OnPage}
 use Rattle.runs.specs.declared.call.Call.{Call}
 use Rattle.runs.specs.declared.call.Call.TheVariants.{Line, Collect, Accept, Decline}
 use Rattle.runs.specs.declared.call.Back.{Back}
@@ -32,15 +33,17 @@ back_of (Refused refusal) page = number (number_of refusal)
 abbrev pub exchange_of : Call → List ℕ → Back → List ℕ → Book → Exchange
 exchange_of call page back page_after after = record { sent = sent_of call (length page); back = back_of back page_after; book = after }
 
--- it is what comes back of a line
+-- What is told of a line and left of its page: on one that is long enough the answer's length, and the answer at its front; else that it is
+-- too short, and nothing is written. The other calls write nothing.
+abbrev pub PageAfter : Rules → Book → Call → List ℕ → Back → List ℕ → Type 0
+PageAfter rules book (Line bytes) page back page_after =
+    (has_room (length page) ≡ true → (back ≡ Written (length (bytes_to rules book bytes.now (length page))))
+    × OnPage (bytes_to rules book bytes.now (length page)) (keeps_beyond (answer_to request_lines rules book bytes.now)) page page_after)
+    × (has_room (length page) ≡ false → (back ≡ TooShort) × (page_after ≡ page))
+PageAfter rules book call page back page_after = page_after ≡ page
+
+-- For a private function: it is what comes back of a line.
 abbrev pub is_of_line : Back → Bool
 is_of_line TooShort = true
 is_of_line (Written length) = true
 is_of_line back = false
-
--- What a call leaves of its page: a line's answer at its front, if the page is long enough, and else nothing; the other calls write nothing.
-abbrev pub PageAfter : Rules → Book → Call → List ℕ → List ℕ → Type 0
-PageAfter rules book (Line bytes) page page_after =
-    (has_room (length page) ≡ true → OnPage (bytes_to rules book bytes.now (length page)) (keeps_beyond (answer_to rules book bytes.now)) page page_after)
-    × (has_room (length page) ≡ false → page_after ≡ page)
-PageAfter rules book call page page_after = page_after ≡ page

@@ -8,8 +8,8 @@ use Rattle.request.specs.RequestLines.{request_lines}
 use Rattle.runs.specs.Hands.{in_hand}
 use Rattle.runs.specs.Desks.{LedTo, GoesOn}
 
--- an exchange is a decline with a Grant, and it passed
-pub record Declined (exchange : Exchange) : Type 0 where
+-- An exchange is a decline with a Grant, and it passed.
+pub record PassedDecline (exchange : Exchange) : Type 0 where
   pub identifier : List ℕ
   pub sent : exchange.sent ≡ declines_grant identifier
   pub back : exchange.back ≡ done
@@ -20,7 +20,7 @@ pub record Closes (rules : Rules) (before after : Book) : Type 0 where
   pub run : List Exchange
   pub runs : Runs request_lines rules before run
   pub ends : book_at_end before run ≡ after
-  pub declines : All Declined run
+  pub declines : All PassedDecline run
   pub as_many : length run ≡ count_by in_hand before
   pub none_in_hand : count_by in_hand after ≡ 0
   pub law : (start : Start) (earlier : List Exchange) → LedTo start earlier rules before → GoesOn start (earlier ++ run) rules after

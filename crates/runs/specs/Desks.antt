@@ -27,12 +27,12 @@ pub record LedTo (start : Start) (run : List Exchange) (rules : Rules) (book : B
   pub runs : Runs request_lines start.rules start.book run
   pub ends : book_at_end start.book run ≡ book
 
--- An exchange goes on with every run from every founding that led to the rules and the book before it; and of the run with it, too, the
--- law holds.
+-- A run from a start led to rules and a book, and the law holds of it.
 pub record GoesOn (start : Start) (run : List Exchange) (rules : Rules) (after : Book) : Type 0 where
   pub led : LedTo start run rules after
   pub law : Law request_lines start run
 
+-- Whatever run led to the rules and the book before an exchange, with the exchange it led to the book after, and the law holds of it.
 abbrev pub LawKept : Rules → Book → Exchange → Type 0
 LawKept rules before exchange =
     (start : Start) (run : List Exchange) → LedTo start run rules before → GoesOn start (run ++ exchange ∷ []) rules exchange.book

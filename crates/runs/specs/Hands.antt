@@ -25,7 +25,7 @@ has_terms grant None = false
 has_terms grant (Some entry) = (grant.holder == entry.holder) && (grant.quota == entry.quota)
 
 -- The Grant is the register's own for T: it has its serial, its row is the first with T's identifier, and its terms are those of the
--- entry there.
+-- entry there. It is what `IsOwn` says, as a test, which is what a fact of a type can be.
 abbrev pub is_own : ℕ → Book → Held → Bool
 is_own serial book held =
     (held.grant.serial == serial)

@@ -1,6 +1,6 @@
-pub mod Hands
-pub mod Out
 pub mod Calls
+pub mod Hands
 pub mod Desks
 pub mod Closing
 pub mod Replays
+pub mod Out

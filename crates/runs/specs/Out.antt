@@ -1,4 +1,4 @@
--- What the code's Grants that are out mean.
+-- What the code's Grants that are out mean, as `Hands` speaks of them.
 use Rattle.std.specs.Prelude.{List, map}
 use Rattle.oid.specs.Meaning.{arcs_of}
 use Rattle.register.specs.Granted.{grant_of}

@@ -13,7 +13,7 @@ pub enum Call<'a> {
     Decline(&'a Identifier),
 }
 
-// What comes back of a call: for a line that its page is too short, or how much of the page is written; for the other calls the terms of
+// What comes back of a call: for a line that its page is too short, which is 9, or how much of the page is written; for the other calls the terms of
 // the Grant, which the desk keeps; that it is done; or a refusal.
 #[derive(Clone, Copy, PartialEq, Eq, Debug)]
 pub enum Back {

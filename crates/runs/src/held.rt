@@ -14,7 +14,7 @@ pub struct Held {
 }
 
 impl Held {
-    // The identifier that the Grant was collected for.
+    // Whether the Grant was collected for this identifier.
     pub(crate) fn is_for(&self, entry: &Identifier) -> bool
         ensures { result ≡ is_for (arcs_of entry.now) (held_of self.now) }
     {

@@ -3,7 +3,7 @@
 
 pub mod call;
 pub mod desk;
-pub mod held;
+mod held;
 pub mod replaying;
 pub mod sent;
 

@@ -12,7 +12,7 @@ pub enum Sent {
     Decline { entry: Identifier },
 }
 
-// What comes back: of a line that its page is too short, or the bytes that were written; of the other calls what the desk answers.
+// What comes back: of a line that its page is too short, which is 9, or the bytes that were written; of the other calls what the desk answers.
 #[derive(Drop)]
 pub enum Said {
     TooShort,

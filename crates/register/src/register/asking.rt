@@ -4,9 +4,9 @@ ghost use Rattle.oid.specs.Meaning.{arcs_of};
 ghost use Rattle.oid.specs.Tree.{most_arcs};
 ghost use Rattle.book.specs.Book.{Entry};
 ghost use Rattle.book.specs.Left.{left};
-ghost use Rattle.book.specs.Questions.{as_holder, holds_parent};
+ghost use Rattle.book.specs.Questions.{as_giver, as_holder, holds_parent};
 ghost use Rattle.book.specs.Rulings.{Ruling};
-ghost use Rattle.register.specs.Asked.{as_giver, with_row};
+ghost use Rattle.register.specs.Asked.{with_row};
 ghost use Rattle.register.specs.Kept.{entry_of};
 ghost use Rattle.register.specs.Registers.{book_of, refusal_of};
 
@@ -34,8 +34,7 @@ impl<P, A> Register<P, A> {
         Ok(row)
     }
 
-    // 14 to 18: the same, if an identifier below the authority has room for its arcs, and the authority has left what one with the quota
-    // takes; a panel has none.
+    // 14 to 18: the same, if an identifier below it has at most 16 arcs, and it has left 1 and the quota, which is 0 for a panel.
     pub(crate) fn as_giver(
         &self,
         holder: u32,

@@ -88,6 +88,9 @@ fn below(authority: &Identifier, arc: Arc) -> Identifier
     requires { length (arcs_of authority.now) < most_arcs }
     ensures { arcs_of result ≡ arcs_of authority.now ++ arc ∷ [] }
 {
-    // There is one, as an authority with room below it has a child with every arc.
-    authority.child(arc).unwrap_or(*authority)
+    // An authority with room below it has a child with every arc.
+    let Some(identifier) = authority.child(arc) else {
+        unreachable!()
+    };
+    identifier
 }

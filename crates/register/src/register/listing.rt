@@ -5,7 +5,8 @@ ghost use Rattle.oid.specs.Meaning.{arcs_of};
 ghost use Rattle.request.specs.Answers.{roll_bytes, roll_lines, last_line, child_of};
 ghost use Rattle.request.specs.Limits.{has_room, least_rest};
 ghost use Rattle.register.specs.Registers.{book_of};
-ghost use Rattle.register.specs.Submitted.{shown, OnPage};
+ghost use Rattle.register.specs.Submitted.{OnPage};
+ghost use Rattle.register.specs.Yes.{shown};
 
 use super::Register;
 use oid::{Arc, Identifier, next_arc};

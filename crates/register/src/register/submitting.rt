@@ -1,14 +1,15 @@
 // Request lines answered.
 ghost use Rattle.std.specs.Prelude.{ℕ, ◌≡◌, true, false, Ok, Err, cond, length};
 ghost use Rattle.book.specs.Questions.{ruling};
-ghost use Rattle.book.specs.Runs.{Serves, after_made};
+ghost use Rattle.book.specs.Runs.{answer_to, Serves, after_made};
 ghost use Rattle.request.specs.Limits.{has_room};
 ghost use Rattle.request.specs.Reading.{call_of};
 ghost use Rattle.request.specs.RequestLines.{request_lines};
 ghost use Rattle.request.specs.Requests.{call_of_request};
 ghost use Rattle.request.specs.declared.page.PageRefusal.TheVariants.{TooShort};
 ghost use Rattle.register.specs.Registers.{book_of, rules_of, Follows, KeepsRest};
-ghost use Rattle.register.specs.Submitted.{answer_to, bytes_to, keeps_beyond, line_exchange, OnPage, answer_yes, bytes_yes, is_one_line};
+ghost use Rattle.register.specs.Submitted.{bytes_to, keeps_beyond, line_exchange, OnPage};
+ghost use Rattle.register.specs.Yes.{answer_yes, bytes_yes, is_one_line};
 
 use super::Register;
 use crate::yes::Yes;
@@ -22,7 +23,7 @@ impl<P: ArcRule, A: ArcRule> Register<P, A> {
     // short is untouched, and nothing is done.
     pub fn submit(&mut self, line: &[u8], page: &mut [u8]) -> Result<usize, PageRefusal>
         ensures value { result ≡ cond (has_room (length page.old)) (Ok (length (bytes_to (rules_of P.means A.means self.old) (book_of self.old) line.now (length page.old)))) (Err TooShort) }
-        ensures page { has_room (length page.old) ≡ true → OnPage (bytes_to (rules_of P.means A.means self.old) (book_of self.old) line.now (length page.old)) (keeps_beyond (answer_to (rules_of P.means A.means self.old) (book_of self.old) line.now)) page.old page.new }
+        ensures page { has_room (length page.old) ≡ true → OnPage (bytes_to (rules_of P.means A.means self.old) (book_of self.old) line.now (length page.old)) (keeps_beyond (answer_to request_lines (rules_of P.means A.means self.old) (book_of self.old) line.now)) page.old page.new }
         ensures untouched { has_room (length page.old) ≡ false → page.new ≡ page.old }
         ensures serves { Serves request_lines (rules_of P.means A.means self.old) (book_of self.old)
             (line_exchange line.now (length page.old) result page.new (book_of self.new)) }
@@ -41,7 +42,7 @@ impl<P: ArcRule, A: ArcRule> Register<P, A> {
     // What a line is answered. A no of the book is at the line's identifier.
     fn answer(&mut self, line: &[u8]) -> Result<Yes, Fault>
         ensures bytes { (page_length : ℕ) → bytes_yes (book_of self.new) page_length result ≡ bytes_to (rules_of P.means A.means self.old) (book_of self.old) line.now page_length }
-        ensures one_line { is_one_line result ≡ keeps_beyond (answer_to (rules_of P.means A.means self.old) (book_of self.old) line.now) }
+        ensures one_line { is_one_line result ≡ keeps_beyond (answer_to request_lines (rules_of P.means A.means self.old) (book_of self.old) line.now) }
         ensures book { book_of self.new ≡ after_made (rules_of P.means A.means self.old) (book_of self.old) (call_of line.now) }
         ensures rest { KeepsRest self.old self.new }
     {

@@ -5,7 +5,7 @@ ghost use Rattle.book.specs.Book.{Entry};
 ghost use Rattle.book.specs.Questions.{turning, holds_parent};
 ghost use Rattle.book.specs.Rulings.{Answer};
 ghost use Rattle.book.specs.declared.event.Event.TheVariants.{Retire};
-ghost use Rattle.register.specs.Asked.{answer_turned, Stands, Refuses};
+ghost use Rattle.register.specs.Asked.{answer_turned, StandsFirst, Refuses};
 ghost use Rattle.register.specs.Registers.{book_of, Follows, KeepsRest};
 
 use super::Register;
@@ -22,7 +22,7 @@ impl<P, A> Register<P, A> {
         event: Event,
     ) -> Result<Standing, Refusal>
         ensures ruling { (answer : Entry → Answer) → Follows (turning (book_of self.old) (arcs_of entry.now) event (λ offered. taker == offered.holder) answer) (book_of self.old) (answer_turned answer result) (book_of self.new) }
-        ensures stands { IfOk result (Stands (book_of self.old) (arcs_of entry.now) event) }
+        ensures stands { IfOk result (StandsFirst (book_of self.old) (arcs_of entry.now) event) }
         ensures rest { KeepsRest self.old self.new }
     {
         let standing = self.changing(entry, event)?;
@@ -48,7 +48,7 @@ impl<P, A> Register<P, A> {
 
     // 14 and 15: the entry, if it stands in the book, and its kind is one that the event changes.
     fn changing(&self, entry: &Identifier, event: Event) -> Result<Standing, Refusal>
-        ensures stands { IfOk result (Stands (book_of self.now) (arcs_of entry.now) event) }
+        ensures stands { IfOk result (StandsFirst (book_of self.now) (arcs_of entry.now) event) }
         ensures refuses { IfErr result (Refuses (book_of self.now) (arcs_of entry.now) event) }
     {
         let Some(number) = self.row_at(entry) else {

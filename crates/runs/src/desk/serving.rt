@@ -21,7 +21,7 @@ impl<P: ArcRule, A: ArcRule> Desk<P, A> {
     pub fn serve(&mut self, call: Call<'_>, page: &mut [u8]) -> Back
         ensures serves { Serves request_lines (rules_at P.means A.means self.old) (book_at self.old) (exchange_of call.entry page.old result page.new (book_at self.new)) }
         ensures law { LawKept (rules_at P.means A.means self.old) (book_at self.old) (exchange_of call.entry page.old result page.new (book_at self.new)) }
-        ensures page { PageAfter (rules_at P.means A.means self.old) (book_at self.old) call.entry page.old page.new }
+        ensures page { PageAfter (rules_at P.means A.means self.old) (book_at self.old) call.entry page.old result page.new }
         ensures rest { KeepsRest (register_of self.old) (register_of self.new) }
     {
         match call {
@@ -83,6 +83,7 @@ impl<P: ArcRule, A: ArcRule> Desk<P, A> {
         let Held { entry: _, grant } = self.held.remove(place);
         match self.register.decline(grant) {
             Ok(_) => Back::Done,
+            // A register's own Grant is never refused.
             Err(_unspent) => unreachable!(),
         }
     }

@@ -1,6 +1,6 @@
 use Rattle.std.proofs.Common.{Ok, Err, length, sym, ap, ◌∙◌}
 use Rattle.register.specs.Registers.{book_of, rules_of}
-use Rattle.register.specs.Submitted.{bytes_yes}
+use Rattle.register.specs.Yes.{bytes_yes}
 use Rattle.register.proofs.LineCalls.{first_on_page, first_serves}
 use Rattle.register.proofs.register.Register.submit.Goals as goal
 

@@ -5,7 +5,7 @@ use Rattle.oid.proofs.Arcs.{limit_width}
 use Rattle.request.specs.Answers.{child_line}
 use Rattle.request.specs.Limits.{least_rest}
 use Rattle.register.specs.Registers.{book_of}
-use Rattle.register.specs.Submitted.{shown}
+use Rattle.register.specs.Yes.{shown}
 use Rattle.register.proofs.Onward.{no_more, one_more, next_is, none_above}
 use Rattle.register.proofs.RollLines.{rolled, none_left, child_put, child_not_put, line_rest}
 use Rattle.register.proofs.register.Register.write_children.Goals as goal

@@ -3,7 +3,7 @@ use Rattle.oid.specs.Arcs.{arc_limit}
 use Rattle.oid.specs.Meaning.{arcs_of}
 use Rattle.request.specs.Limits.{least_rest}
 use Rattle.register.specs.Registers.{book_of}
-use Rattle.register.specs.Submitted.{shown}
+use Rattle.register.specs.Yes.{shown}
 use Rattle.register.proofs.RollLines.{rolled}
 use Rattle.register.proofs.register.Register.write_children.Given as goal
 

@@ -2,7 +2,7 @@ use Rattle.std.proofs.Common.{map, Ok, ap}
 use Rattle.oid.specs.Meaning.{arcs_of}
 use Rattle.request.specs.Answers.{child_of}
 use Rattle.register.specs.Registers.{book_of}
-use Rattle.register.specs.Submitted.{shown}
+use Rattle.register.specs.Yes.{shown}
 use Rattle.register.proofs.RollLines.{first_rest, all_counted, on_page}
 use Rattle.register.proofs.register.Register.write_roll.Goals as goal
 
