@@ -2,7 +2,7 @@
 use Rattle.std.proofs.Common.{◌≡◌, ℕ, ◌<◌, ◌≤◌, Bool, true, false, cond, List, [], length, Some, None, Option, refl, sym, ap, ◌∙◌, arith}
 use Rattle.std.specs.List.{count_by}
 use Rattle.std.proofs.lemmas.List.Sums.{count_by-le-length}
-use Rattle.book.specs.Book.{Book, most_entries, is_at, found}
+use Rattle.book.specs.Book.{Book, is_at, found}
 use Rattle.book.specs.Calls.{collect}
 use Rattle.book.specs.Rulings.{collected}
 use Rattle.book.specs.Questions.{Rules, answer, after}
@@ -26,12 +26,6 @@ fewer rules serial book held taker t holder quota e hands =
     let moves = collect_moves rules book taker t holder quota e in
     let long = ap length it.leaves ∙ length_turned t it.kind book in
     omega (arith, hands.as_many, moves.count, count_by-le-length in_hand later, long)
-
-pub room_for_one : (rules : Rules) (serial : ℕ) (book : Book) (held : List Held) (taker : ℕ) (t : List ℕ) (holder quota : ℕ)
-    → answer rules book (collect taker t) ≡ collected holder quota → Hands serial book held → length book ≤ most_entries
-    → length held < most_entries
-room_for_one rules serial book held taker t holder quota e hands within =
-    omega (arith, fewer rules serial book held taker t holder quota e hands, within)
 
 -- where none is out, nothing is in hand
 pub none_out : (serial : ℕ) (book : Book) → Hands serial book [] → count_by in_hand book ≡ 0

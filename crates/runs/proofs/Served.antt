@@ -1,5 +1,5 @@
 -- Calls of Grants as they are served at a desk.
-use Rattle.std.proofs.Common.{◌≡◌, ℕ, List, [], ◌∷◌, ◌++◌, Some, sym, ap, ◌∙◌, subst}
+use Rattle.std.proofs.Common.{refl, ◌≡◌, ℕ, List, [], ◌∷◌, ◌++◌, Some, sym, ap, ◌∙◌, subst, Option, None, ◌<◌, arith, length}
 use Rattle.std.specs.Prelude.{position, remove}
 use Rattle.std.specs.List.{slice_index_or}
 use Rattle.std.proofs.lemmas.List.{map_push}
@@ -17,6 +17,10 @@ use Rattle.runs.proofs.AtDesk.{hands_at}
 use Rattle.request.specs.RequestLines.{request_lines}
 use Rattle.register.specs.Granted as register
 use Rattle.book.specs.declared.refusal.Refusal.{Refusal}
+use Rattle.std.specs.Option.{ForSome}
+use Rattle.book.specs.declared.founding.FoundingRefusal.{FoundingRefusal}
+use Rattle.register.specs.Kept.{book_in}
+use Rattle.register.specs.declared.row.Row.{Row}
 use Rattle.register.specs.Granted.{grant_of}
 use Rattle.register.specs.Registers.{book_of, serial_of, Follows}
 use Rattle.register.specs.declared.grant.Grant as code
@@ -93,3 +97,9 @@ module _ {rules : Rules} {serial : ℕ} {book : Book} {one : Held} {rest : List 
   -- it is not refused
   pub passes : (refusal : Refusal) → told ≡ refused refusal → ⊥
   passes refusal is = let z = sym is ∙ spent.answers ∙ ap answer_spent spends.spends in cc
+
+-- a register with an entry was not refused
+pub not_refused : (refused_for : Option FoundingRefusal) (rows : List Row) (count : ℕ) → ForSome refused_for (λ _. rows ≡ [])
+    → count < length (book_in rows) → refused_for ≡ None
+not_refused None rows count emptied more = refl
+not_refused (Some refusal) rows count emptied more = let none = ap (λ rows. length (book_in rows)) (emptied refusal refl) in absurd (omega (arith, none, more))

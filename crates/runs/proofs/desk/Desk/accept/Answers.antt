@@ -19,7 +19,7 @@ invariant_of-self g c =
     let desk = c.args.self.now in
     let spends = spends_taken (rules_of g.P.ArcRule.means g.A.ArcRule.means desk.register) desk (arcs_of c.args.entry.now) c.in-Some.place c.remove.result c.remove.new.self.items (sym c.place_of.ensures ∙ c.in-Some.is) c.remove.ensures.value c.remove.ensures.items in
     let after = hands_spent spends.0 c.accept.ensures.spends (serial_of c.accept.new.self) c.accept.ensures.rest.serial in
-    record { own = after.own; each_once = after.each_once; as_many = after.as_many; room = omega (arith, desk.room, c.remove.ensures.capacity) }
+    record { own = after.own; each_once = after.each_once; as_many = after.as_many; room = λ none. let was = desk.room (sym c.accept.ensures.rest.refusal ∙ none) in omega (arith, was, c.remove.ensures.capacity) }
 
 pub unreachable-requires : goal.unreachable-requires
 unreachable-requires g c =

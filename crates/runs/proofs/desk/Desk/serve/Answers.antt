@@ -1,4 +1,4 @@
-use Rattle.std.proofs.Common.{length}
+use Rattle.std.proofs.Common.{length, sym, ◌∙◌}
 use Rattle.register.specs.Registers.{book_of, rules_of, serial_of}
 use Rattle.runs.specs.Calls.{exchange_of}
 use Rattle.runs.specs.Desks.{book_at}
@@ -17,7 +17,7 @@ invariant_of-self g c =
     c.submit.ensures.serves.leaves
     (line_keeps (rules_of g.P.ArcRule.means g.A.ArcRule.means desk.register) (serial_of desk.register) (book_of desk.register) (held_in desk.held.items) c.in-Line.line.now
     (length c.args.page.now) (hands_at desk)) in
-    record { own = after.own; each_once = after.each_once; as_many = after.as_many; room = desk.room }
+    record { own = after.own; each_once = after.each_once; as_many = after.as_many; room = λ none. desk.room (sym c.submit.ensures.rest.refusal ∙ none) }
 
 pub returns-in-Ok-clause-law : goal.returns-in-Ok-clause-law
 returns-in-Ok-clause-law g c =
