@@ -6,6 +6,8 @@ pub mod desk;
 mod held;
 pub mod replaying;
 pub mod sent;
+#[cfg(test)]
+mod tests;
 
 pub use call::{Back, Call};
 pub use desk::Desk;
