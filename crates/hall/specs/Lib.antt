@@ -1,0 +1,2 @@
+pub mod Founded
+pub mod Served
