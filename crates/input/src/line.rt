@@ -1,5 +1,5 @@
 // A line of input, in memory that does not grow with it.
-ghost use Rattle.std.specs.Prelude.{◌≡◌, ℕ, ◌<◌, ◌≤◌, List, [], ◌∷◌, ◌++◌, length, IfOk, IfSome, MatchOption, ◌==◌, nat_le};
+ghost use Rattle.std.specs.Prelude.{◌≡◌, ℕ, ◌+◌, ◌<◌, ◌≤◌, List, [], ◌∷◌, ◌++◌, length, take, IfOk, IfSome, MatchOption, ◌==◌, nat_le};
 ghost use Rattle.input.specs.Limits.{line_limit};
 ghost use Rattle.input.specs.Lines.{Took};
 
@@ -68,6 +68,13 @@ impl Line {
         ensures bound { IfSome result (λ kept. length kept.now ≤ line_limit) }
     {
         self.is_whole().then_some(self.bytes.as_slice())
+    }
+
+    // The first bytes it has taken, up to one more than may be read.
+    pub fn kept(&self) -> &[u8]
+        ensures { (bytes : List ℕ) → Took self.now bytes → result.now ≡ take (line_limit + 1) bytes }
+    {
+        self.bytes.as_slice()
     }
 
     // Begins anew.
