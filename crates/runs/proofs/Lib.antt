@@ -12,3 +12,4 @@ pub mod ByLine
 pub mod Served
 pub mod Declining
 pub mod Progress
+pub mod Joined
