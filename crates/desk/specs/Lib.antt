@@ -1,0 +1,3 @@
+pub mod Told
+pub mod Answers
+pub mod Came
