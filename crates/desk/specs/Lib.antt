@@ -1,3 +1,5 @@
 pub mod Told
 pub mod Answers
 pub mod Came
+pub mod Lines
+pub mod States

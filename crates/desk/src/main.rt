@@ -2,6 +2,7 @@
 #![tactic(auto)]
 
 mod calls;
+mod lines;
 mod told;
 
 fn main(rt: HostRuntime) -> anyhow::Result<()> {
