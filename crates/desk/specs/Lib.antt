@@ -3,3 +3,4 @@ pub mod Answers
 pub mod Came
 pub mod Lines
 pub mod States
+pub mod Left

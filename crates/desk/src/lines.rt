@@ -63,9 +63,10 @@ pub fn answer_line<P: ArcRule, A: ArcRule, W: Write + Drop>(
     ensures page { length page.new ≡ length page.old }
     ensures rest { KeepsRest (register_of desk.old) (register_of desk.new) }
 {
-    if !is_counter(line.kept()) {
-        return serve_line(desk, line, page, out);
+    if is_counter(line.kept()) {
+        let told = answer(desk, read(line.kept()));
+        writeln!(out, "{told}")
+    } else {
+        serve_line(desk, line, page, out)
     }
-    let told = answer(desk, read(line.kept()));
-    writeln!(out, "{told}")
 }
