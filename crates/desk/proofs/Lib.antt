@@ -1,2 +1,3 @@
 pub mod Backs
 pub mod Steps
+pub mod Begun
