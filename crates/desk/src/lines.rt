@@ -1,6 +1,6 @@
 // Lines of input, answered at a desk one after the other.
-ghost use Rattle.std.specs.Prelude.{◌≡◌, ℕ, List, length, OnOk};
-ghost use Rattle.std.specs.Io.Buffered.{writer_contents};
+ghost use Rattle.std.specs.Prelude.{◌≡◌, ℕ, List, [], length, OnOk};
+ghost use Rattle.std.specs.Io.Buffered.{writer_contents, writer_buffer};
 ghost use Rattle.std.proofs.Common.{sym, subst};
 ghost use Rattle.std.proofs.lemmas.List.Sums.{fold-append};
 ghost use Rattle.input.specs.Lines.{Took};
@@ -34,7 +34,12 @@ impl<P: ArcRule, A: ArcRule, W: Write + Drop> LineTaker for Service<P, A, W> {
         answer_line(&mut self.desk, line, &mut self.page, &mut self.out)
     }
 
-    fn pause(&mut self) -> io::Result<()> {
+    fn pause(&mut self) -> io::Result<()>
+        ensures stays { OnOk result ((state : State)
+            → IsAt P.means A.means self.old.desk (length self.old.page.items) (writer_contents W.contents self.old.out) state
+            → IsAt P.means A.means self.new.desk (length self.new.page.items) (writer_contents W.contents self.new.out) state) }
+        ensures handed_on { OnOk result (writer_buffer self.new.out ≡ []) }
+    {
         self.out.flush()
     }
 

@@ -32,8 +32,8 @@ pub fn answer_lines<R: Read, W: Write + Drop, E: Write>(
     ensures answered { IfOk result (λ output. (lines : List (List ℕ)) × LinesOf (R.remaining input.old) lines
         × Has (writer_contents W.contents output) (all_served (at_founding (founding_told (held options)) options.page (W.contents out)) lines).output
         × Appends (E.contents errors.old) (E.contents errors.new)
-            (refusal_told (founding_refusal (founding_told (held options)))
-            ++ left_told (count_by in_hand (all_served (at_founding (founding_told (held options)) options.page (W.contents out)) lines).book))) }
+        (refusal_told (founding_refusal (founding_told (held options)))
+        ++ left_told (count_by in_hand (all_served (at_founding (founding_told (held options)) options.page (W.contents out)) lines).book))) }
     ensures handed_on { IfOk result (λ output. writer_buffer output ≡ []) }
 {
     let page = vec![in heap; 0; options.page]?;
@@ -47,7 +47,11 @@ pub fn answer_lines<R: Read, W: Write + Drop, E: Write>(
         out: buffered,
     };
     let answering = read_lines(heap, input, &mut service);
-    let Service { desk, page: _, mut out } = service;
+    let Service {
+        desk,
+        page: _,
+        mut out,
+    } = service;
     let left = desk.out();
     desk.close();
     answering?;
