@@ -10,18 +10,27 @@ use Rattle.std.proofs.lemmas.Grind.{common_steps}
 use Rattle.digits.specs.Digits.{digits_in}
 use Rattle.der.specs.Base128.{more, digit_in, value_of, base128}
 
+-- the byte that stands for a digit before the last
+abbrev pub marked : ℕ → ℕ
+marked digit = more + digit
+
 -- the digits of a number, with 80 added to each: what stands before the last byte
 abbrev pub higher : ℕ → List ℕ
-higher n = map (λ digit. more + digit) (digits_of 128 n)
+higher n = map marked (digits_of 128 n)
 
-higher_step : (n : ℕ) → 0 < n → higher n ≡ higher (n / 128) ++ ((128 + n % 128) ∷ [])
+pub higher_step : (n : ℕ) → 0 < n → higher n ≡ higher (n / 128) ++ ((128 + n % 128) ∷ [])
 higher_step n h =
     ap (map (λ digit. more + digit)) (digits_of_step 128 n (omega arith) h)
     ∙ map_push (λ digit. more + digit) (digits_of 128 (n / 128)) (n % 128)
 
-base128_is : (n : ℕ) → base128 n ≡ higher (n / 128) ++ (n % 128 ∷ [])
+pub base128_is : (n : ℕ) → base128 n ≡ higher (n / 128) ++ (n % 128 ∷ [])
 unfolding base128
 base128_is n = refl
+
+-- the digits before the last, and the last
+pub digits_split : (n : ℕ) → digits_in 128 n ≡ digits_of 128 (n / 128) ++ (n % 128 ∷ [])
+unfolding digits_in
+digits_split n = refl
 
 -- as many bytes as digits
 pub length_digits : (n : ℕ) → length (digits_in 128 n) ≡ length (base128 n)

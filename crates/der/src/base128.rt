@@ -3,7 +3,7 @@ ghost use Rattle.std.specs.Prelude.{◌≡◌, ◌+◌, ◌-◌, ◌^◌, ◌≤
 ghost use Rattle.oid.specs.Pages.{at_front};
 ghost use Rattle.der.specs.Base128.{is_last, base128, first_series, value_of};
 
-use digits::{digits, with_digit};
+use digits::{digit_count, with_digit, write_digits};
 
 // What is added to each byte but the last.
 const MORE: u8 = 0x80;
@@ -41,7 +41,7 @@ pub(crate) fn read_base128(bytes: &[u8]) -> u64
 pub(crate) fn base128_length(number: u64) -> usize
     ensures { result ≡ length (base128 number) }
 {
-    digits::<128>(number).len()
+    digit_count::<128>(number)
 }
 
 // Writes a number at the front of a page that has room for it, and answers how many bytes.
@@ -51,10 +51,11 @@ pub(crate) fn write_base128(number: u64, page: &mut [u8]) -> usize
     ensures value { result ≡ length (base128 number) }
     ensures after { page.new ≡ at_front (base128 number) page.old }
 {
-    let digits = digits::<128>(number);
-    let last = digits.len() - 1;
-    for (at, digit) in digits.iter().enumerate() {
-        page[at] = if at < last { MORE + *digit } else { *digit };
+    let Some(count) = write_digits::<128>(number, page) else {
+        unreachable!()
+    };
+    for at in 0..count - 1 {
+        page[at] += MORE;
     }
-    digits.len()
+    count
 }

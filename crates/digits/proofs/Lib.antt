@@ -1,2 +1,3 @@
+pub mod Marked
 pub mod Steps
 pub mod Values

@@ -1,9 +1,9 @@
 // Numbers in the digits of a base: the digits of a number, and a number read digit by digit.
 #![tactic(auto)]
 
-ghost use Rattle.std.specs.Prelude.{◌≡◌, ◌+◌, ◌-◌, ◌*◌, ◌^◌, ◌≤◌, ◌++◌, max, min, length};
+ghost use Rattle.std.specs.Prelude.{◌≡◌, ◌+◌, ◌-◌, ◌*◌, ◌^◌, ◌≤◌, ◌++◌, max, min, length, drop};
 ghost use Rattle.arrayvec.specs.ArrayVec.{array_vec_len};
-ghost use Rattle.digits.specs.Digits.{digits_in};
+ghost use Rattle.digits.specs.Digits.{digits_in, digits_fit, digits_written, page_after};
 
 use arrayvec::ArrayVec;
 
@@ -18,24 +18,69 @@ pub const MOST_DIGITS: usize = 64;
 pub fn digits<const BASE: u8>(number: u64) -> ArrayVec<u8, MOST_DIGITS>
     ensures { result.items ≡ digits_in (max BASE 2) number }
 {
-    let mut digits = ArrayVec::new();
-    push_digits(number, BASE.max(2), &mut digits);
+    let mut page = [0; MOST_DIGITS];
+    let count = put_digits::<BASE>(number, &mut page);
+    let mut digits = ArrayVec::from(page);
+    digits.truncate(count);
     digits
 }
 
-// Puts the digits of a number behind others, where there is room for them.
-#[tactic(auto, using(crate::proofs::Steps::one_digit, crate::proofs::Steps::pushed, crate::proofs::Steps::length_step, crate::proofs::Steps::room_left))]
-fn push_digits(number: u64, base: u8, digits: &mut ArrayVec<u8, MOST_DIGITS>)
-    requires base { 2 ≤ base }
-    requires room { array_vec_len digits.old + length (digits_in base number) ≤ 64 }
-    ensures { digits.new.items ≡ digits.old.items ++ digits_in base number }
+// How many digits a number has. A base below 2 counts as 2.
+#[tactic(auto, using(crate::proofs::Steps::one_digit, crate::proofs::Steps::length_step, crate::proofs::Steps::length_most))]
+pub fn digit_count<const BASE: u8>(number: u64) -> usize
+    ensures value { result ≡ length (digits_in (max BASE 2) number) }
+    ensures some { 1 ≤ result }
+    ensures most { result ≤ 64 }
 {
-    if number < u64::from(base) {
-        digits.push(number as u8);
-        return;
+    let base = base_of::<BASE>();
+    if number < base {
+        return 1;
     }
-    push_digits(number / u64::from(base), base, digits);
-    digits.push((number % u64::from(base)) as u8);
+    1 + digit_count::<BASE>(number / base)
+}
+
+// Writes the digits of a number at the front of a page, the highest first, and answers how many. None where the page has no room for
+// them, and then it is untouched. A base below 2 counts as 2.
+pub fn write_digits<const BASE: u8>(number: u64, page: &mut [u8]) -> Option<usize>
+    ensures value { result ≡ digits_written (digits_in (max BASE 2) number) page.old }
+    ensures after { page.new ≡ page_after (digits_in (max BASE 2) number) page.old }
+{
+    if !has_room::<BASE>(number, page) {
+        return None;
+    }
+    Some(put_digits::<BASE>(number, page))
+}
+
+// Whether a page has room for the digits of a number. Where it has room for those of any, they are not counted.
+fn has_room<const BASE: u8>(number: u64, page: &[u8]) -> bool
+    ensures { result ≡ digits_fit (digits_in (max BASE 2) number) page.now }
+{
+    MOST_DIGITS <= page.len() || digit_count::<BASE>(number) <= page.len()
+}
+
+// Writes the digits of a number at the front of a page that has room for them, from the last to the first, and answers how many.
+fn put_digits<const BASE: u8>(number: u64, page: &mut [u8]) -> usize
+    requires { length (digits_in (max BASE 2) number) ≤ length page.old }
+    ensures value { result ≡ length (digits_in (max BASE 2) number) }
+    ensures after { page.new ≡ digits_in (max BASE 2) number ++ drop (length (digits_in (max BASE 2) number)) page.old }
+{
+    let base = base_of::<BASE>();
+    let count = digit_count::<BASE>(number);
+    page[count - 1] = (number % base) as u8;
+    let mut rest = number / base;
+    for place in (0..count - 1).rev() {
+        page[place] = (rest % base) as u8;
+        rest /= base;
+    }
+    count
+}
+
+// The base that is meant: 2 at least.
+fn base_of<const BASE: u8>() -> u64
+    ensures value { result ≡ max BASE 2 }
+    ensures some { 2 ≤ result }
+{
+    u64::from(BASE.max(2))
 }
 
 // The value of some digits and one more behind them; the largest of 64 bits where it is larger.

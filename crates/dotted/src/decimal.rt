@@ -2,7 +2,7 @@
 ghost use Rattle.std.specs.Prelude.{◌≡◌, ◌≤◌, length, decimal};
 ghost use Rattle.oid.specs.Pages.{at_front, new_end, page_after};
 
-use digits::digits;
+use digits::write_digits;
 use oid::{Refusal, fits};
 
 // Writes a number in decimal into the page from a place onwards, and answers the new end. Where too little of the page is left, or the
@@ -25,7 +25,7 @@ pub(crate) fn digit_count(number: u64) -> usize
     ensures value { result ≡ length (decimal number) }
     ensures most { result ≤ 20 }
 {
-    digits::<10>(number).len()
+    digits::digit_count::<10>(number)
 }
 
 // Writes a number in decimal at the front of a page that has room for it, and answers how many digits.
@@ -35,9 +35,11 @@ pub(crate) fn write_number(number: u64, page: &mut [u8]) -> usize
     ensures value { result ≡ length (decimal number) }
     ensures after { page.new ≡ at_front (decimal number) page.old }
 {
-    let digits = digits::<10>(number);
-    for (place, digit) in digits.iter().enumerate() {
-        page[place] = b'0' + *digit;
+    let Some(count) = write_digits::<10>(number, page) else {
+        unreachable!()
+    };
+    for place in 0..count {
+        page[place] += b'0';
     }
-    digits.len()
+    count
 }

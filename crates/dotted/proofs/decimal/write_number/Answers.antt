@@ -1,31 +1,36 @@
-use Rattle.std.proofs.Common.{◌+◌, ◌++◌, ◌∷◌, [], map, length, get_or, take, drop, sym, ap, ◌∙◌, arith, decimal, ◌≡◌}
-use Rattle.std.proofs.lemmas.List.{take_more, take_more_set, take_all, take-append-drop, drop-drop, drop-set-lt, map_push}
+use Rattle.std.proofs.Common.{◌≡◌, ◌+◌, ◌<◌, ◌≤◌, ◌++◌, length, get_or, drop, sym, ap, ◌∙◌, subst, arith, decimal}
+use Rattle.digits.specs.Digits.{digits_in}
+use Rattle.digits.proofs.Marked.{Begun, next_digit, digit_more, digits_end}
+use Rattle.digits.proofs.Steps.{all_written, digit_below}
 use Rattle.dotted.proofs.Digits.{written, decimal_digits, length_digits}
 use Rattle.dotted.proofs.decimal.write_number.Goals as goal
 
+pub overflow_add-page : goal.overflow_add-page
+overflow_add-page c =
+    let digits = digits_in 10 c.args.number in
+    let before = c.args.page.now in
+    let wrote = all_written digits before c.write_digits.new.page c.write_digits.result c.in-Some.count (omega (arith, length_digits c.args.number (omega arith))) c.write_digits.ensures.value c.write_digits.ensures.after c.in-Some.is in
+    let i = c.loop-place.place in
+    let here = next_digit written digits (drop (length digits) before) c.loop-place.page i (omega (arith, wrote.0)) (subst (λ all. Begun written all i c.loop-place.page) wrote.1 c.loop-place.invariant) in
+    omega (arith, here, digit_below 10 c.args.number i (omega arith))
+
 pub loop-place-preserved : goal.loop-place-preserved
 loop-place-preserved c =
-    let digits = c.deref-digit-items.result.now in
-    let page = c.loop-place.page in
-    let i = c.loop-place.place in
-    let digit = get_or digits i 0 in
-    let long = ap length (c.deref-digit-items.ensures.0 ∙ c.digits-digits.ensures) in
-    record {
-      front =
-          take_more_set page i (written digit) (omega (arith, length_digits c.args.number))
-          ∙ ap (λ l. l ++ written digit ∷ []) c.loop-place.invariant.front
-          ∙ sym (map_push written (take i digits) digit)
-          ∙ ap (map written) (sym (take_more digits i 0 c.loop-place-test.true));
-      rest =
-          drop-set-lt (i + 1) page i (written digit) (omega arith)
-          ∙ sym (drop-drop 1 i page) ∙ ap (drop 1) c.loop-place.invariant.rest ∙ drop-drop 1 i c.args.page.now;
-    }
+    let digits = digits_in 10 c.args.number in
+    let long = length_digits c.args.number (omega arith) in
+    let wrote = all_written digits c.args.page.now c.write_digits.new.page c.write_digits.result c.in-Some.count (omega (arith, long)) c.write_digits.ensures.value c.write_digits.ensures.after c.in-Some.is in
+    digit_more written c.write_digits.new.page c.loop-place.page c.loop-place.place _ (omega (arith, wrote.0, long)) c.loop-place.invariant (omega arith)
 
-pub returns-clause-after : goal.returns-clause-after
-returns-clause-after c =
-    let is = c.deref-digit-items.ensures.0 ∙ c.digits-digits.ensures in
+pub returns : goal.returns
+returns c =
+    let digits = digits_in 10 c.args.number in
+    let before = c.args.page.now in
+    let rest = drop (length digits) before in
+    let long = length_digits c.args.number (omega arith) in
+    let wrote = all_written digits before c.write_digits.new.page c.write_digits.result c.in-Some.count (omega (arith, long)) c.write_digits.ensures.value c.write_digits.ensures.after c.in-Some.is in
     let i = c.loop-place.place in
-    let all = take_all i c.deref-digit-items.result.now c.loop-place-test.false in
-    let front = c.loop-place.invariant.front ∙ ap (map written) (all ∙ is) ∙ decimal_digits c.args.number (omega arith) in
-    let long : i ≡ length (decimal c.args.number) = omega (arith, ap length is, length_digits c.args.number) in
-    sym (take-append-drop i c.loop-place.page) ∙ (λ k. front k ++ c.loop-place.invariant.rest k) ∙ ap (λ n. decimal c.args.number ++ drop n c.args.page.now) long
+    let all = digits_end written digits rest c.loop-place.page i (omega (arith, wrote.0)) (subst (λ all. Begun written all i c.loop-place.page) wrote.1 c.loop-place.invariant) in
+    record {
+      value = wrote.0 ∙ long;
+      after = all ∙ (λ k. decimal_digits c.args.number (omega arith) k ++ drop (long k) before);
+    }

@@ -1,10 +1,7 @@
-use Rattle.std.proofs.Common.{◌≡◌, map, take, drop}
+use Rattle.digits.proofs.Marked.{Begun}
 use Rattle.dotted.proofs.Digits.{written}
 use Rattle.dotted.proofs.decimal.write_number.Given as goal
 
--- as many digits as were gone over stand at the front, and the rest of the page is as it was
+-- as many digits as were gone over are written
 abbrev pub invariant-loop-place : goal.invariant-loop-place
-invariant-loop-place l = record {
-  front : take l.place l.page ≡ map written (take l.place l.digit-items);
-  rest : drop l.place l.page ≡ drop l.place l.fn.page;
-}
+invariant-loop-place l = Begun written l.initial.page l.place l.page
