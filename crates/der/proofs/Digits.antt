@@ -3,7 +3,7 @@ use Rattle.std.proofs.Common.{◌≡◌, ℕ, suc, ◌+◌, ◌-◌, ◌*◌, �
 use native.Mathlib.Nat.{pow-succ'}
 use Rattle.std.specs.Int.Digits.{digits_of, number_from_digits_after, number_from_digits, AllBelowBase}
 use Rattle.std.proofs.lemmas.Int.Digits.{digits_of_step, length-digits_of-le, all_below_base_digits_of, first_digits_of, number_push, number_lt, number_digits_of}
-use Rattle.std.proofs.lemmas.List.{map_push, length-map}
+use Rattle.std.proofs.lemmas.List.{map_push, length-map, length_push}
 use Rattle.std.proofs.lemmas.Bool.{cases_lt, eqb-false}
 use Rattle.std.proofs.lemmas.Bool.Decides.{nat_tests}
 use Rattle.std.proofs.lemmas.Grind.{common_steps}
@@ -32,6 +32,10 @@ pub digits_split : (n : ℕ) → digits_in 128 n ≡ digits_of 128 (n / 128) ++ 
 unfolding digits_in
 digits_split n = refl
 
+-- a byte for each digit before the last, and one for the last
+pub length-base128 : (n : ℕ) → length (base128 n) ≡ length (higher (n / 128)) + 1
+length-base128 n = ap length (base128_is n) ∙ length_push (higher (n / 128)) (n % 128)
+
 -- as many bytes as digits
 pub length_digits : (n : ℕ) → length (digits_in 128 n) ≡ length (base128 n)
 unfolding digits_in base128
@@ -45,6 +49,10 @@ some_bytes n = grind (arith, common_steps)
 pub length-base128-le : (k n : ℕ) → n / 128 < 128 ^ k → length (base128 n) ≤ k + 1
 unfolding base128
 length-base128-le k n h = let few = length-digits_of-le 128 k (n / 128) (omega arith) h in grind (arith, common_steps)
+
+-- no number of 64 bits has more bytes
+pub length_most : (n : ℕ) → n < 2 ^ 64 → length (base128 n) ≤ 10
+length_most n fits = length-base128-le 9 n (omega arith)
 
 -- each byte is a digit, with 80 added to it or, at the last, without
 pub higher_byte : (n i : ℕ) → i + 1 < length (digits_in 128 n) → get_or (base128 n) i 0 ≡ 128 + get_or (digits_in 128 n) i 0

@@ -1,5 +1,5 @@
 -- The first two arcs joined in one subidentifier, and taken apart again.
-use Rattle.std.proofs.Common.{◌≡◌, ℕ, ◌-◌, ◌*◌, min, true, false, not, ltb, ap, ◌∙◌, arith}
+use Rattle.std.proofs.Common.{◌≡◌, ℕ, ◌-◌, ◌*◌, ◌≤◌, min, true, false, not, ltb, ap, ◌∙◌, arith}
 use Rattle.std.proofs.lemmas.Bool.Decides.{nat_tests}
 use Rattle.oid.specs.Arcs.{arc_limit, is_arc, arc_of}
 use Rattle.oid.specs.Collected.{numeral_of}
@@ -8,6 +8,16 @@ use Rattle.oid.specs.declared.numeral.Numeral.{Numeral}
 use Rattle.oid.proofs.Arcs.{limit_room, limit_least}
 use Rattle.der.specs.Subidentifiers.{joined_arcs, root_in, second_in, arc_number}
 use Rattle.der.proofs.Digits.{cap}
+
+-- what is counted for the root is not more than the subidentifier
+pub root_below : (n : ℕ) → 40 * root_in n ≤ n
+root_below n = grind (arith, nat_tests)
+
+pub root_most : (n : ℕ) → root_in n ≤ last_root
+root_most n = grind (arith, nat_tests)
+
+pub root_two : (n : ℕ) → 80 ≤ n → root_in n ≡ 2
+root_two n large = grind (arith, nat_tests)
 
 -- taken apart and joined again
 pub joined_again : (n : ℕ) → joined_arcs (root_in n) (second_in n) ≡ n

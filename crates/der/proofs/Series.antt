@@ -1,5 +1,5 @@
 -- Contents, series by series.
-use Rattle.std.proofs.Common.{◌≡◌, ℕ, suc, ◌+◌, ◌/◌, ◌%◌, ◌<◌, Bool, true, false, cond, not, eqb, List, [], ◌∷◌, ◌++◌, map, length, get_or, take, drop, Some, None, Option, MatchOption, sym, refl, ap, ◌∙◌, arith}
+use Rattle.std.proofs.Common.{◌≡◌, ℕ, suc, ◌+◌, ◌/◌, ◌%◌, ◌<◌, ◌≤◌, Bool, true, false, cond, not, eqb, List, [], ◌∷◌, ◌++◌, map, length, get_or, take, drop, Some, None, Option, MatchOption, sym, refl, ap, ◌∙◌, arith}
 use Rattle.std.specs.List.{find, position, position_or_len}
 use Rattle.std.specs.Option.{option_map}
 use Rattle.std.proofs.lemmas.List.{append_assoc, append-nil}
@@ -25,6 +25,13 @@ first_series_is (byte ∷ rest) = go (is_last byte) (first_series_is rest)
         → cond v (byte ∷ []) (byte ∷ first_series rest) ≡ byte ∷ take (cond (not v) (1 + position_or_len is_last rest) 0) rest
     go true e = refl
     go false e = grind (arith, common_steps)
+
+-- it lies within the bytes, and is some bytes where there are any
+pub first_within : (bytes : List ℕ) → length (first_series bytes) ≤ length bytes
+first_within bytes = let is = ap length (first_series_is bytes) in grind (arith, common_steps)
+
+pub first_some : (bytes : List ℕ) → 0 < length bytes → 0 < length (first_series bytes)
+first_some bytes some = let is = ap length (first_series_is bytes) in grind (arith, common_steps)
 
 -- what a search for that byte tells: where the first series ends, and what follows begins
 pub series_found : (bytes : List ℕ) (found : Option ℕ) → found ≡ position is_last bytes

@@ -3,7 +3,7 @@
 
 ghost use Rattle.std.specs.Prelude.{◌≡◌, ◌+◌, ◌-◌, ◌*◌, ◌^◌, ◌≤◌, ◌++◌, max, min, length, drop};
 ghost use Rattle.arrayvec.specs.ArrayVec.{array_vec_len};
-ghost use Rattle.digits.specs.Digits.{digits_in, digits_fit, digits_written, page_after};
+ghost use Rattle.digits.specs.Digits.{digits_in, digits_written, page_after};
 
 use arrayvec::ArrayVec;
 
@@ -19,7 +19,9 @@ pub fn digits<const BASE: u8>(number: u64) -> ArrayVec<u8, MOST_DIGITS>
     ensures { result.items ≡ digits_in (max BASE 2) number }
 {
     let mut page = [0; MOST_DIGITS];
-    let count = put_digits::<BASE>(number, &mut page);
+    let Some(count) = write_digits::<BASE>(number, &mut page) else {
+        unreachable!()
+    };
     let mut digits = ArrayVec::from(page);
     digits.truncate(count);
     digits
@@ -39,40 +41,24 @@ pub fn digit_count<const BASE: u8>(number: u64) -> usize
     1 + digit_count::<BASE>(number / base)
 }
 
-// Writes the digits of a number at the front of a page, the highest first, and answers how many. None where the page has no room for
-// them, and then it is untouched. A base below 2 counts as 2.
+// Writes the digits of a number at the front of a page, from the last to the first, and answers how many. None where the page has no
+// room for them, and then it is untouched. A base below 2 counts as 2.
 pub fn write_digits<const BASE: u8>(number: u64, page: &mut [u8]) -> Option<usize>
     ensures value { result ≡ digits_written (digits_in (max BASE 2) number) page.old }
     ensures after { page.new ≡ page_after (digits_in (max BASE 2) number) page.old }
 {
-    if !has_room::<BASE>(number, page) {
-        return None;
-    }
-    Some(put_digits::<BASE>(number, page))
-}
-
-// Whether a page has room for the digits of a number. Where it has room for those of any, they are not counted.
-fn has_room<const BASE: u8>(number: u64, page: &[u8]) -> bool
-    ensures { result ≡ digits_fit (digits_in (max BASE 2) number) page.now }
-{
-    MOST_DIGITS <= page.len() || digit_count::<BASE>(number) <= page.len()
-}
-
-// Writes the digits of a number at the front of a page that has room for them, from the last to the first, and answers how many.
-fn put_digits<const BASE: u8>(number: u64, page: &mut [u8]) -> usize
-    requires { length (digits_in (max BASE 2) number) ≤ length page.old }
-    ensures value { result ≡ length (digits_in (max BASE 2) number) }
-    ensures after { page.new ≡ digits_in (max BASE 2) number ++ drop (length (digits_in (max BASE 2) number)) page.old }
-{
     let base = base_of::<BASE>();
     let count = digit_count::<BASE>(number);
+    if count > page.len() {
+        return None;
+    }
     page[count - 1] = (number % base) as u8;
     let mut rest = number / base;
     for place in (0..count - 1).rev() {
         page[place] = (rest % base) as u8;
         rest /= base;
     }
-    count
+    Some(count)
 }
 
 // The base that is meant: 2 at least.

@@ -1,7 +1,7 @@
 // The writer of dotted text.
 ghost use Rattle.std.specs.Prelude.{◌≡◌, ◌+◌, ◌≤◌, true, length, is_ok, IfOk};
 ghost use Rattle.oid.specs.Meaning.{arcs_of};
-ghost use Rattle.oid.specs.Pages.{at_front, new_end, page_after};
+ghost use Rattle.oid.specs.Pages.{fits, at_front, new_end, page_after};
 ghost use Rattle.dotted.specs.Laws.{ReadsBack};
 ghost use Rattle.dotted.specs.Writing.{after_dot, dotted_text, text_limit};
 
@@ -21,12 +21,18 @@ pub fn write(identifier: &Identifier, page: &mut [u8], place: usize) -> Result<u
     ensures succeeds { place + text_limit ≤ length page.old → is_ok result ≡ true }
     ensures reads_back { IfOk result (λ end. ReadsBack page.new place end (arcs_of identifier.now)) }
 {
-    let length = text_length(identifier);
-    if !fits(page, place, length) {
+    if !has_room(identifier, page, place) {
         return Err(Refusal::PageTooShort);
     }
-    write_text(identifier, &mut page[place..]);
+    let length = write_text(identifier, &mut page[place..]);
     Ok(place + length)
+}
+
+// Whether enough of the page is left for the identifier's text. Where there is enough for any, the text is not measured.
+fn has_room(identifier: &Identifier, page: &[u8], place: usize) -> bool
+    ensures { result ≡ fits place (dotted_text (arcs_of identifier.now)) page.now }
+{
+    fits(page, place, TEXT_LIMIT) || fits(page, place, text_length(identifier))
 }
 
 // How many bytes the identifier's text has: a dot with each arc but one.
@@ -41,17 +47,19 @@ fn text_length(identifier: &Identifier) -> usize
     with_dots - 1
 }
 
-// Writes the identifier's text at the front of a page that has room for it.
+// Writes the identifier's text at the front of a page that has room for it, and answers how many bytes.
 #[tactic(auto, using(oid::proofs::Tree::some_arcs))]
-fn write_text(identifier: &Identifier, page: &mut [u8])
+fn write_text(identifier: &Identifier, page: &mut [u8]) -> usize
     requires { length (dotted_text (arcs_of identifier.now)) ≤ length page.old }
-    ensures { page.new ≡ at_front (dotted_text (arcs_of identifier.now)) page.old }
+    ensures value { result ≡ length (dotted_text (arcs_of identifier.now)) }
+    ensures after { page.new ≡ at_front (dotted_text (arcs_of identifier.now)) page.old }
 {
     let arcs = identifier.arcs();
     let mut end = write_number(u64::from(arcs[0]), page);
     for arc in &arcs[1..] {
         end += write_after_dot(*arc, &mut page[end..]);
     }
+    end
 }
 
 // Writes a dot and an arc at the front of a page that has room for both, and answers how many bytes.

@@ -62,5 +62,9 @@ pub returns : goal.returns
 returns c =
     let items = take (length c.arcs-arcs.result.now - 1) (drop 1 c.arcs-arcs.result.now) in
     let none = at_drop_all later_arcs items c.loop-arc.arc-index c.loop-arc-test.false in
-    sym (placed_none c.loop-arc.end c.loop-arc.page)
-    ∙ (λ k. placed c.loop-arc.end (sym none k) c.loop-arc.page) ∙ c.loop-arc.invariant.page
+    record {
+      value = omega (arith, c.loop-arc.invariant.long, ap length none);
+      after =
+          sym (placed_none c.loop-arc.end c.loop-arc.page)
+          ∙ (λ k. placed c.loop-arc.end (sym none k) c.loop-arc.page) ∙ c.loop-arc.invariant.page;
+    }

@@ -1,7 +1,7 @@
 use Rattle.std.proofs.Common.{◌≡◌, ◌++◌, length, drop}
 use Rattle.std.specs.Int.Digits.{digits_of}
 use Rattle.digits.specs.Digits.{digits_in}
-use Rattle.digits.proofs.put_digits.Given as goal
+use Rattle.digits.proofs.write_digits.Given as goal
 
 -- what is still to be written, put before what stands behind it, gives the page that is wanted
 abbrev pub invariant-loop-place : goal.invariant-loop-place
