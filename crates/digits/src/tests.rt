@@ -1,5 +1,5 @@
 // Digits at the edges of a base.
-use crate::{digits, with_digit};
+use crate::{digit_count, digits, with_digit, write_digits};
 
 #[test]
 fn numerals(rt: HostRuntime) {
@@ -8,6 +8,16 @@ fn numerals(rt: HostRuntime) {
     assert!(rt; digits::<128>(127).as_slice() == [127].as_slice());
     assert!(rt; digits::<128>(1079).as_slice() == [8, 55].as_slice());
     assert_eq!(rt; digits::<0>(u64::MAX).len(), 64);
+}
+
+#[test]
+fn places(rt: HostRuntime) {
+    let mut page = [7; 5];
+    assert_eq!(rt; write_digits::<10>(407, &mut page), Some(3));
+    assert!(rt; page == [4, 0, 7, 7, 7]);
+    assert_eq!(rt; write_digits::<10>(100000, &mut page), None);
+    assert!(rt; page == [4, 0, 7, 7, 7]);
+    assert_eq!(rt; digit_count::<10>(100000), 6);
 }
 
 #[test]
