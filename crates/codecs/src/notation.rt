@@ -49,15 +49,22 @@ pub trait Notation {
     // what is written of an identifier is read as it, with nothing left over
     ghost reads_back: { (arcs : List ℕ) → is_identifier arcs ≡ true → (reading (written arcs) ≡ Ok arcs) × (told (taken_in (written arcs)) (reading (written arcs)) ≡ Ok (length (written arcs))) };
 
+    // What is written of the identifier, on a page that is lent.
+    final fn written_on<'a>(identifier: &Identifier, page: &'a mut [u8; PAGE_LIMIT]) -> &'a [u8]
+        ensures value { result.now ≡ written (arcs_of identifier.now) }
+        ensures within { length result.now ≤ page_limit }
+    {
+        let end = Self::write(identifier, page, 0).unwrap();
+        &page[0..end]
+    }
+
     // What is written of the identifier, on a page of its own.
     final fn page(identifier: &Identifier) -> ArrayVec<u8, PAGE_LIMIT>
         ensures { result.items ≡ written (arcs_of identifier.now) }
     {
         let mut page = [0; PAGE_LIMIT];
-        let end = Self::write(identifier, &mut page, 0).unwrap();
-        let mut bytes = ArrayVec::from(page);
-        bytes.truncate(end);
-        bytes
+        let bytes = Self::written_on(identifier, &mut page);
+        ArrayVec::try_from(bytes).unwrap()
     }
 }
 

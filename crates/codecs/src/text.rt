@@ -4,7 +4,7 @@ ghost use Rattle.oid.specs.Meaning.{arcs_of};
 ghost use Rattle.dotted.specs.Writing.{dotted_text};
 ghost use Rattle.codecs.specs.Printed.{described};
 
-use crate::notation::{Dotted, Notation};
+use crate::notation::{Dotted, Notation, PAGE_LIMIT};
 use oid::Identifier;
 use std::{fmt, str};
 
@@ -16,8 +16,9 @@ impl fmt::Display for Text<'_> {
     ghost output = { λ text. Some (dotted_text (arcs_of text.0.now)) };
 
     fn fmt<W: fmt::Write>(&self, f: &mut fmt::Formatter<W>) -> fmt::Result {
-        let page = Dotted::page(self.0);
-        f.write_str(str::from_utf8(page.as_slice()).unwrap())
+        let mut page = [0; PAGE_LIMIT];
+        let text = Dotted::written_on(self.0, &mut page);
+        f.write_str(str::from_utf8(text).unwrap())
     }
 }
 

@@ -1,11 +1,12 @@
 // A text and its encoding, compared with what our readers and writers make of them.
 ghost use Rattle.std.specs.Prelude.{◌≡◌};
 ghost use Rattle.std.specs.Result.{result_err};
-ghost use Rattle.conformance.specs.Differences.{refused_by, from_equal, from_refused, from_mark};
+ghost use Rattle.der.specs.Reading.{read_der};
+ghost use Rattle.conformance.specs.Differences.{refused_by, by_bytes, from_equal, from_refused, from_mark};
 
 use crate::difference::Difference;
 use crate::mark::Mark;
-use codecs::{Der, Dotted, Identifier, Notation, Refusal, read_der, read_dotted};
+use codecs::{Der, Dotted, Identifier, Notation, PAGE_LIMIT, Refusal, read_der, read_dotted};
 
 // A text, and bytes that are said to stand for the same identifier.
 #[derive(Clone, Copy)]
@@ -34,14 +35,24 @@ impl Case<'_> {
     {
         let mut identifier = Identifier::smallest();
         read_dotted(self.text, &mut identifier).map_err(|_| Difference::TextRead)?;
-        if Der::page(&identifier).as_slice() != self.encoding {
+        let mut page = [0; PAGE_LIMIT];
+        if Der::written_on(&identifier, &mut page) != self.encoding {
             return Err(Difference::BytesWritten);
         }
+        self.compare_back()
+    }
+
+    // The encoding read whole, and its text written.
+    fn compare_back(&self) -> Result<(), Difference>
+        ensures { result_err result ≡ by_bytes (read_der self.now.encoding.now) self.now.text.now self.now.encoding.now }
+    {
+        let mut identifier = Identifier::smallest();
         let taken = read_der(self.encoding, &mut identifier).map_err(|_| Difference::BytesRead)?;
         if taken != self.encoding.len() {
             return Err(Difference::BytesRead);
         }
-        if Dotted::page(&identifier).as_slice() != self.text {
+        let mut page = [0; PAGE_LIMIT];
+        if Dotted::written_on(&identifier, &mut page) != self.text {
             return Err(Difference::TextWritten);
         }
         Ok(())

@@ -2,7 +2,7 @@
 ghost use Rattle.std.specs.Prelude.{Some, Ok};
 ghost use Rattle.sticker.specs.Answers.{said, printed};
 
-use codecs::{Der, Described, Identifier, Notation, Text};
+use codecs::{Der, Described, Identifier, Notation, PAGE_LIMIT, Text};
 use input::Pairs;
 use std::fmt;
 
@@ -25,9 +25,9 @@ impl fmt::Display for Found {
         match self {
             Found::Sticker(identifier) => {
                 let described = Described(*identifier);
-                let page = Der::page(identifier);
+                let mut page = [0; PAGE_LIMIT];
                 let encoding = Pairs {
-                    bytes: page.as_slice(),
+                    bytes: Der::written_on(identifier, &mut page),
                     between: "",
                 };
                 write!(f, "{described} der {encoding}")

@@ -1,4 +1,4 @@
-use Rattle.std.proofs.Common.{◌≡◌, true, is_ok, Ok, Err, Result, sym, refl, ◌∙◌, subst}
+use Rattle.std.proofs.Common.{◌≡◌, true, is_ok, Ok, Err, Result, sym, refl, subst}
 use Rattle.std.specs.Result.{MatchResult}
 use Rattle.std.specs.Str.{IsUtf8}
 use Rattle.oid.specs.Meaning.{arcs_of}
@@ -14,5 +14,5 @@ no_error (Err e) P Q h none = absurd (none e h)
 pub unwrap-requires : goal.unwrap-requires
 unwrap-requires g c =
     let identifier = c.args.self.now.0.now in
-    let utf8 = subst IsUtf8 (sym (c.as_slice.ensures.value ∙ c.page-page.ensures)) (text_utf8 (arcs_of identifier) identifier.rule) in
+    let utf8 = subst IsUtf8 (sym c.written_on-text.ensures.value) (text_utf8 (arcs_of identifier) identifier.rule) in
     no_error c.from_utf8.result _ _ c.from_utf8.ensures.cases (λ error fault. fault.0 utf8)
