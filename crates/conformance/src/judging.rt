@@ -8,7 +8,7 @@ ghost use Rattle.conformance.specs.Differences.{by_mark, from_line};
 use crate::case::Case;
 use crate::difference::Difference;
 use crate::mark::{Mark, mark_of};
-use input::{Line, content_of, split_field};
+use input::{Line, MOST_PAIRS, content_in, split_field};
 
 // Whether we agree with a line; else where we differ from it.
 pub fn compare_line(line: &Line) -> Result<(), Difference>
@@ -28,10 +28,8 @@ fn compare_rest(mark: Mark, rest: &[u8]) -> Result<(), Difference>
     ensures { result_err result ≡ by_mark (Some mark) rest.now }
 {
     let (text, digits) = split_field(rest);
-    let content = content_of(digits).map_err(|_| Difference::Form)?;
-    let case = Case {
-        text,
-        encoding: content.as_slice(),
-    };
+    let mut page = [0; MOST_PAIRS];
+    let encoding = content_in(digits, &mut page).map_err(|_| Difference::Form)?;
+    let case = Case { text, encoding };
     case.compare(mark)
 }

@@ -22,14 +22,21 @@ pub fn content_of(digits: &[u8]) -> Result<ArrayVec<u8, MOST_PAIRS>, Unpaired>
     ensures few { length digits.now ≤ line_limit → MatchResult result (λ content. (unpaired digits.now ≡ None) × (content.items ≡ pairs_in digits.now)) (λ fault. unpaired digits.now ≡ Some fault.offset) }
     ensures many { line_limit < length digits.now → MatchResult result (λ content. ⊥) (λ fault. fault.offset ≡ unwrap_or (unpaired digits.now) line_limit) }
 {
+    let mut page = [0; MOST_PAIRS];
+    let content = content_in(digits, &mut page)?;
+    ArrayVec::try_from(content).map_err(|_| Unpaired { offset: LINE_LIMIT })
+}
+
+// The same, read to the front of a page that is lent.
+pub fn content_in<'a>(digits: &[u8], page: &'a mut [u8; MOST_PAIRS]) -> Result<&'a [u8], Unpaired>
+    ensures few { length digits.now ≤ line_limit → MatchResult result (λ content. (unpaired digits.now ≡ None) × (content.now ≡ pairs_in digits.now)) (λ fault. unpaired digits.now ≡ Some fault.offset) }
+    ensures many { line_limit < length digits.now → MatchResult result (λ content. ⊥) (λ fault. fault.offset ≡ unwrap_or (unpaired digits.now) line_limit) }
+{
     if let Some(offset) = first_unpaired(digits) {
         return Err(Unpaired { offset });
     }
-    let mut page = [0; MOST_PAIRS];
-    let Some(count) = read_pairs(digits, &mut page) else {
+    let Some(count) = read_pairs(digits, page) else {
         return Err(Unpaired { offset: LINE_LIMIT });
     };
-    let mut content = ArrayVec::from(page);
-    content.truncate(count);
-    Ok(content)
+    Ok(&page[..count])
 }

@@ -72,10 +72,24 @@ fn take_bytes<T: LineTaker>(input: &[u8], line: &mut Line, taker: &mut T) -> io:
 {
     for byte in input {
         if *byte == b'\n' {
-            taker.take_line(line)?;
-            line.clear();
+            end_line(line, taker)?;
         } else {
             line.take(*byte);
+        }
+    }
+    Ok(())
+}
+
+// Takes the line, which has ended, and begins anew, also where the taking fails.
+fn end_line<T: LineTaker>(line: &mut Line, taker: &mut T) -> io::Result<()>
+    ensures after { Took line.new [] }
+    ensures taken { OnOk result ((bytes : List ℕ) → Took line.old bytes → T.taken taker.old (bytes ∷ []) taker.new) }
+{
+    match taker.take_line(line) {
+        Ok(()) => line.clear(),
+        Err(error) => {
+            line.clear();
+            return Err(error);
         }
     }
     Ok(())

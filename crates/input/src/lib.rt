@@ -17,7 +17,7 @@ mod tests;
 
 pub use checking::{Checker, check_lines};
 pub use closing::close;
-pub use content::{Unpaired, content_of};
+pub use content::{MOST_PAIRS, Unpaired, content_in, content_of};
 pub use feed::{LineTaker, read_lines};
 pub use fields::split_field;
 pub use line::{LINE_LIMIT, Line};

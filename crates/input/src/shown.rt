@@ -1,6 +1,7 @@
 // What the programs print of bytes, and of a line that is too long.
-ghost use Rattle.std.specs.Prelude.{Some};
-ghost use Rattle.input.specs.Hex.{pair_of, pairs_of};
+ghost use Rattle.std.specs.Prelude.{◌≡◌, ◌<◌, Some, [], ◌∷◌};
+ghost use Rattle.std.specs.Fmt.{WritesOnOk};
+ghost use Rattle.input.specs.Hex.{digit_of, pair_of, pairs_of};
 ghost use Rattle.input.specs.Limits.{too_long_text};
 
 use crate::line::LINE_LIMIT;
@@ -21,29 +22,35 @@ impl fmt::Display for Pairs<'_> {
         let Some((first, others)) = self.bytes.split_first() else {
             return Ok(());
         };
-        let first = Pair(*first);
-        write!(f, "{first}")?;
+        write_pair(*first, f)?;
         let between = self.between;
         for byte in others {
-            let pair = Pair(*byte);
-            write!(f, "{between}{pair}")?;
+            f.write_str(between)?;
+            write_pair(*byte, f)?;
         }
         Ok(())
     }
 }
 
-// A byte as a pair of hexadecimal digits in capitals.
-#[derive(Clone, Copy)]
-struct Pair(u8);
+// The digits that write the values below 16, in capitals.
+const DIGITS: [&str; 16] = [
+    "0", "1", "2", "3", "4", "5", "6", "7", "8", "9", "A", "B", "C", "D", "E", "F",
+];
 
-impl fmt::Display for Pair {
-    ghost output = { λ pair. Some (pair_of pair.0) };
+// Writes a byte as a pair of hexadecimal digits in capitals.
+fn write_pair<W: fmt::Write>(byte: u8, f: &mut fmt::Formatter<W>) -> fmt::Result
+    ensures { WritesOnOk W.write_str_gives f.old result (pair_of byte) f.new }
+{
+    f.write_str(digit(byte / 16))?;
+    f.write_str(digit(byte % 16))
+}
 
-    #[tactic(auto, using(std::proofs::lemmas::Fmt::hex_byte))]
-    fn fmt<W: fmt::Write>(&self, f: &mut fmt::Formatter<W>) -> fmt::Result {
-        let byte = self.0;
-        write!(f, "{byte:02X}")
-    }
+// The digit that writes a value below 16.
+fn digit(value: u8) -> &'static str
+    requires { value < 16 }
+    ensures { result.now ≡ digit_of value ∷ [] }
+{
+    DIGITS[usize::from(value)]
 }
 
 // A line has more bytes than may be read.

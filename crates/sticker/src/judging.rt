@@ -7,7 +7,7 @@ ghost use Rattle.sticker.specs.Answers.{said, on_text, on_content, on_digits, on
 use crate::found::Found;
 use crate::trouble::Trouble;
 use codecs::{Identifier, read_der, read_dotted};
-use input::{Line, content_of};
+use input::{Line, MOST_PAIRS, content_in};
 
 // What a chip's line begins with.
 const CHIP_WORD: &[u8; 4] = b"der ";
@@ -39,8 +39,9 @@ fn judge_digits(digits: &[u8]) -> Result<Found, Trouble>
     requires { length digits.now ≤ line_limit }
     ensures { said result ≡ on_digits digits.now }
 {
-    match content_of(digits) {
-        Ok(content) => judge_content(content.as_slice()),
+    let mut page = [0; MOST_PAIRS];
+    match content_in(digits, &mut page) {
+        Ok(content) => judge_content(content),
         Err(unpaired) => Err(Trouble::NotHex {
             offset: CHIP_WORD.len() + unpaired.offset,
         }),

@@ -1,14 +1,9 @@
-use Rattle.std.proofs.Common.{ℕ, replicate, sym, ◌∙◌, arith}
-use Rattle.std.proofs.lemmas.List.{length-replicate}
-use Rattle.input.proofs.Digits.{never_short, none_fit}
+use Rattle.std.proofs.Common.{◌≤◌, length, ap, rules, arith}
+use Rattle.input.proofs.Digits.{length_pairs}
 use Rattle.input.proofs.content.content_of.Goals as goal
 
-pub returns-in_default-read_pairs-clause-few : goal.returns-in_default-read_pairs-clause-few
-returns-in_default-read_pairs-clause-few c few =
-    let room = length-replicate {A = ℕ} 2048 0 in
-    absurd (never_short c.args.digits.now (replicate 2048 0) (omega arith) c.in_default-read_pairs.ensures.value)
-
-pub returns-clause-many : goal.returns-clause-many
-returns-clause-many c many =
-    let room = length-replicate {A = ℕ} 2048 0 in
-    none_fit c.args.digits.now (replicate 2048 0) c.in-Some-read_pairs.count (sym c.first_unpaired.ensures ∙ c.in_default.is) (omega arith) (sym c.in-Some-read_pairs.is ∙ c.read_pairs.ensures.value)
+pub returns-clause-few : goal.returns-clause-few
+returns-clause-few c few =
+    let content = c.in_ok-content.ensures.few few in
+    let short : length c.in_ok-content.content.now ≤ 2048 = omega (arith, length_pairs c.args.digits.now, ap length content.1) in
+    search (rules, short, content)

@@ -3,7 +3,7 @@ use Rattle.std.proofs.lemmas.List.{take_all}
 use Rattle.input.specs.Lines.{underway, ended}
 use Rattle.input.proofs.Feeding.{underway_feed, ended_feed, underway_byte, ended_byte}
 use Rattle.input.proofs.feed.take_bytes.Goals as goal
-use Rattle.input.proofs.feed.take_bytes.Goals.{then-byte-eq10+in_ok-take_line, else-byte-eq10}
+use Rattle.input.proofs.feed.take_bytes.Goals.{then-byte-eq10+in_ok-end_line, else-byte-eq10}
 
 pub loop-byte-init : goal.loop-byte-init
 unfolding underway ended
@@ -15,16 +15,16 @@ loop-byte-preserved g c =
     let i = c.loop-byte.byte-index in
     let so_far = c.loop-byte.invariant in
     elim c.if-byte-eq10.branch [
-      | then-byte-eq10+in_ok-take_line w ↦
+      | then-byte-eq10+in_ok-end_line w ↦
           let feed = w.if-byte-eq10.true in
           record {
-            rest = λ bytes under. w.line-is ∙ w.clear.ensures ∙ sym (ap (take 4097) (underway_feed bytes input i (omega arith) feed));
+            rest = λ bytes under. w.line-is ∙ w.end_line.ensures.after ∙ sym (ap (take 4097) (underway_feed bytes input i (omega arith) feed));
             lines = λ bytes under.
                 let line = underway bytes (take i input) in
                 subst (g.T.LineTaker.taken c.args.taker.now (ended bytes (take (i + 1) input))) (sym w.taker-is)
-                (subst (λ l. g.T.LineTaker.taken c.args.taker.now l w.take_line.new.self) (sym (ended_feed bytes input i (omega arith) feed))
-                (g.met.T.LineTaker.further c.args.taker.now c.loop-byte.taker w.take_line.new.self (ended bytes (take i input)) (line ∷ [])
-                (so_far.lines bytes under) (w.in_ok-take_line.ensures line (so_far.rest bytes under))));
+                (subst (λ l. g.T.LineTaker.taken c.args.taker.now l w.end_line.new.taker) (sym (ended_feed bytes input i (omega arith) feed))
+                (g.met.T.LineTaker.further c.args.taker.now c.loop-byte.taker w.end_line.new.taker (ended bytes (take i input)) (line ∷ [])
+                (so_far.lines bytes under) (w.in_ok-end_line.ensures.taken line (so_far.rest bytes under))));
           }
       | else-byte-eq10 w ↦
           let other = w.if-byte-eq10.false in
