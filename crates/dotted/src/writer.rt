@@ -28,11 +28,12 @@ pub fn write(identifier: &Identifier, page: &mut [u8], place: usize) -> Result<u
     Ok(place + length)
 }
 
-// Whether enough of the page is left for the identifier's text. Where there is enough for any, the text is not measured.
+// Whether enough of the page is left for the identifier's text. It is not measured where there is enough for any, or the place lies past the end.
 fn has_room(identifier: &Identifier, page: &[u8], place: usize) -> bool
     ensures { result ≡ fits place (dotted_text (arcs_of identifier.now)) page.now }
 {
-    fits(page, place, TEXT_LIMIT) || fits(page, place, text_length(identifier))
+    fits(page, place, TEXT_LIMIT)
+        || place <= page.len() && fits(page, place, text_length(identifier))
 }
 
 // How many bytes the identifier's text has: a dot with each arc but one.

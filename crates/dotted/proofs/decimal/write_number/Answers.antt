@@ -1,4 +1,4 @@
-use Rattle.std.proofs.Common.{◌≡◌, ◌+◌, ◌<◌, ◌≤◌, ◌++◌, length, get_or, drop, sym, ap, ◌∙◌, subst, arith, decimal}
+use Rattle.std.proofs.Common.{◌++◌, length, drop, ◌∙◌, subst, arith}
 use Rattle.digits.specs.Digits.{digits_in}
 use Rattle.digits.proofs.Marked.{Begun, next_digit, digit_more, digits_end}
 use Rattle.digits.proofs.Steps.{all_written, digit_below}
