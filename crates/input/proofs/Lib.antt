@@ -3,4 +3,5 @@ pub mod Counted
 pub mod Digits
 pub mod Feeding
 pub mod Printed
+pub mod Table
 pub mod Taking

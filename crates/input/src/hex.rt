@@ -1,5 +1,6 @@
 // Pairs of hexadecimal digits.
 ghost use Rattle.std.specs.Prelude.{◌≡◌, ◌≤◌, position};
+ghost use Rattle.std.specs.Char.{is_ascii_hexdigit};
 ghost use Rattle.input.specs.Hex.{is_stray, hex_value, unpaired, pairs_read, page_after};
 
 // The offset of the first byte at fault: one that is no digit, else an odd last digit. None where there are pairs of
@@ -17,8 +18,26 @@ pub fn first_unpaired(digits: &[u8]) -> Option<usize>
 fn first_stray(bytes: &[u8]) -> Option<usize>
     ensures { result ≡ position is_stray bytes.now }
 {
-    bytes.iter().position(|byte| !byte.is_ascii_hexdigit())
+    bytes.iter().position(|byte| !is_hex(*byte))
 }
+
+// Whether a byte is a digit; by a table, so that each byte takes as long as another.
+fn is_hex(byte: u8) -> bool
+    ensures { result ≡ is_ascii_hexdigit byte }
+{
+    HEX[usize::from(byte)] != 0
+}
+
+const HEX: [u8; 256] = [
+    0, 0, 0, 0, 0, 0, 0, 0, 0, 0, 0, 0, 0, 0, 0, 0, 0, 0, 0, 0, 0, 0, 0, 0, 0, 0, 0, 0, 0, 0, 0, 0,
+    0, 0, 0, 0, 0, 0, 0, 0, 0, 0, 0, 0, 0, 0, 0, 0, 1, 1, 1, 1, 1, 1, 1, 1, 1, 1, 0, 0, 0, 0, 0, 0,
+    0, 1, 1, 1, 1, 1, 1, 0, 0, 0, 0, 0, 0, 0, 0, 0, 0, 0, 0, 0, 0, 0, 0, 0, 0, 0, 0, 0, 0, 0, 0, 0,
+    0, 1, 1, 1, 1, 1, 1, 0, 0, 0, 0, 0, 0, 0, 0, 0, 0, 0, 0, 0, 0, 0, 0, 0, 0, 0, 0, 0, 0, 0, 0, 0,
+    0, 0, 0, 0, 0, 0, 0, 0, 0, 0, 0, 0, 0, 0, 0, 0, 0, 0, 0, 0, 0, 0, 0, 0, 0, 0, 0, 0, 0, 0, 0, 0,
+    0, 0, 0, 0, 0, 0, 0, 0, 0, 0, 0, 0, 0, 0, 0, 0, 0, 0, 0, 0, 0, 0, 0, 0, 0, 0, 0, 0, 0, 0, 0, 0,
+    0, 0, 0, 0, 0, 0, 0, 0, 0, 0, 0, 0, 0, 0, 0, 0, 0, 0, 0, 0, 0, 0, 0, 0, 0, 0, 0, 0, 0, 0, 0, 0,
+    0, 0, 0, 0, 0, 0, 0, 0, 0, 0, 0, 0, 0, 0, 0, 0, 0, 0, 0, 0, 0, 0, 0, 0, 0, 0, 0, 0, 0, 0, 0, 0,
+];
 
 // Reads pairs of digits, a byte for each, to the front of a page, and answers how many bytes; a byte that is no digit
 // counts as 0. None where the page has no room for them, and then it is untouched.
