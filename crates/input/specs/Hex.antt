@@ -1,5 +1,5 @@
 -- Pairs of hexadecimal digits, in capitals or small letters.
-use Rattle.std.specs.Prelude.{ℕ, ◌+◌, ◌-◌, ◌*◌, ◌/◌, ◌%◌, Bool, not, cond, List, [], ◌∷◌, ◌++◌, length, drop, position, Some, None, Option, ◌==◌, nat_le, nat_lt}
+use Rattle.std.specs.Prelude.{ℕ, ◌+◌, ◌-◌, ◌*◌, ◌/◌, ◌%◌, Bool, not, ◌&&◌, cond, List, [], ◌∷◌, ◌++◌, length, get_or, drop, position, Some, None, Option, ◌==◌, nat_le, nat_lt}
 use Rattle.std.specs.Char.{is_ascii_hexdigit}
 use Rattle.std.specs.Int.{is_in_range}
 use Rattle.std.specs.List.{flat_map}
@@ -8,6 +8,10 @@ use Rattle.std.specs.Option.{option_or}
 -- a byte that is no digit: none of 0 to 9, A to F and a to f
 abbrev pub is_stray : ℕ → Bool
 is_stray byte = not (is_ascii_hexdigit byte)
+
+-- two bytes that are no pair of digits
+abbrev pub is_stray_pair : List ℕ → Bool
+is_stray_pair pair = not (is_ascii_hexdigit (get_or pair 0 0) && is_ascii_hexdigit (get_or pair 1 0))
 
 -- the value of a digit; of another byte 0
 abbrev pub hex_value : ℕ → ℕ

@@ -1,24 +1,28 @@
 // Pairs of hexadecimal digits.
 ghost use Rattle.std.specs.Prelude.{◌≡◌, ◌≤◌, position};
 ghost use Rattle.std.specs.Char.{is_ascii_hexdigit};
-ghost use Rattle.input.specs.Hex.{is_stray, hex_value, unpaired, pairs_read, page_after};
+ghost use Rattle.input.specs.Hex.{is_stray_pair, hex_value, unpaired, pairs_read, page_after};
 
 // The offset of the first byte at fault: one that is no digit, else an odd last digit. None where there are pairs of
-// digits only.
+// digits only. Behind the pairs the last byte is at fault, whatever it is.
 pub fn first_unpaired(digits: &[u8]) -> Option<usize>
     ensures { result ≡ unpaired digits.now }
 {
-    match first_stray(digits) {
+    let (pairs, _) = digits.as_chunks::<2>();
+    match first_stray_pair(pairs) {
+        Some(place) => Some(2 * place + usize::from(is_hex(pairs[place][0]))),
         None if digits.len() % 2 == 1 => Some(digits.len() - 1),
-        stray => stray,
+        None => None,
     }
 }
 
-// The offset of the first byte that is no digit.
-fn first_stray(bytes: &[u8]) -> Option<usize>
-    ensures { result ≡ position is_stray bytes.now }
+// The place of the first pair with a byte that is no digit.
+fn first_stray_pair(pairs: &[[u8; 2]]) -> Option<usize>
+    ensures { result ≡ position is_stray_pair pairs.now }
 {
-    bytes.iter().position(|byte| !is_hex(*byte))
+    pairs
+        .iter()
+        .position(|[high, low]| !(is_hex(*high) & is_hex(*low)))
 }
 
 // Whether a byte is a digit; by a table, so that each byte takes as long as another.

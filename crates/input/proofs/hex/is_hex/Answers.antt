@@ -1,4 +1,4 @@
-use Rattle.std.proofs.Common.{◌≡◌, ◌∙◌, ap, not, get_or, arith}
+use Rattle.std.proofs.Common.{◌∙◌, ap, not, get_or, arith}
 use Rattle.std.specs.Prelude.{nat_eq}
 use Rattle.input.proofs.Table.{table, told_is}
 use Rattle.input.proofs.hex.is_hex.Goals as goal
