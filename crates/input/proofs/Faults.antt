@@ -10,12 +10,12 @@ use Rattle.std.proofs.lemmas.List.Quantifiers.{position-Some}
 use Rattle.input.specs.Hex.{is_stray, is_stray_pair, unpaired}
 
 -- where the first stray byte stands, by where the first stray pair does, and whether that pair's higher byte is a digit
-abbrev Stands : List ℕ → ℕ → List (List ℕ) → ℕ → ℕ → Bool → Type 0
-Stands digits count pairs byte pair high =
+abbrev Stands : ℕ → List (List ℕ) → ℕ → ℕ → Bool → Type 0
+Stands count pairs byte pair high =
     (pair < count → is_ascii_hexdigit (get_or (get_or pairs pair []) 0 0) ≡ high → byte ≡ 2 * pair + cond high 1 0) × (count ≤ pair → 2 * count ≤ byte)
 
 walk : (digits : List ℕ) (count : ℕ) (high : Bool) → count ≡ length digits / 2
-    → Stands digits count (first_chunks 2 count digits) (position_or_len is_stray digits) (position_or_len is_stray_pair (first_chunks 2 count digits)) high
+    → Stands count (first_chunks 2 count digits) (position_or_len is_stray digits) (position_or_len is_stray_pair (first_chunks 2 count digits)) high
 walk digits zero high e = (λ below. absurd (omega arith), λ above. omega arith)
 walk [] (suc count) high e = absurd (omega arith)
 walk (digit ∷ []) (suc count) high e = absurd (omega arith)
@@ -30,8 +30,8 @@ walk (first ∷ (second ∷ rest)) (suc count) high e = by (is_ascii_hexdigit fi
     pair : ℕ
     pair = position_or_len is_stray_pair pairs
 
-    by : (a b : Bool) → is_ascii_hexdigit first ≡ a → Stands rest count pairs byte pair high
-        → Stands (first ∷ (second ∷ rest)) (suc count) ((first ∷ (second ∷ [])) ∷ pairs) (cond (not (not a)) (1 + cond (not (not b)) (1 + byte) 0) 0) (cond (not (not (a && b))) (1 + pair) 0) high
+    by : (a b : Bool) → is_ascii_hexdigit first ≡ a → Stands count pairs byte pair high
+        → Stands (suc count) ((first ∷ (second ∷ [])) ∷ pairs) (cond (not (not a)) (1 + cond (not (not b)) (1 + byte) 0) 0) (cond (not (not (a && b))) (1 + pair) 0) high
     by true true same further = (
       λ below top.
           let next : suc pair ≡ 1 + pair = omega arith in
