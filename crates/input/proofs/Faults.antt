@@ -1,5 +1,5 @@
 -- The first byte at fault, by the first pair at fault.
-use Rattle.std.proofs.Common.{◌≡◌, ℕ, zero, suc, ◌+◌, ◌-◌, ◌*◌, ◌/◌, ◌%◌, ◌<◌, ◌≤◌, Bool, true, false, not, ◌&&◌, cond, ltb, eqb, List, [], ◌∷◌, length, get_or, Some, None, sym, refl, ap, ◌∙◌, ⊎_elim, arith}
+use Rattle.std.proofs.Common.{◌≡◌, ℕ, zero, suc, ◌+◌, ◌-◌, ◌*◌, ◌/◌, ◌%◌, ◌<◌, ◌≤◌, Bool, true, false, not, ◌&&◌, cond, ltb, eqb, List, [], ◌∷◌, length, get_or, Some, None, Option, sym, refl, ap, ◌∙◌, ⊎_elim, arith}
 use Rattle.std.specs.Char.{is_ascii_hexdigit}
 use Rattle.std.specs.List.{position, position_or_len}
 use Rattle.std.specs.Option.{option_or}
@@ -50,11 +50,14 @@ module _ (digits : List ℕ) (count : ℕ) (few : count ≡ length digits / 2) w
   abbrev byte : ℕ
   byte = position_or_len is_stray digits
 
-  found : byte < length digits → unpaired digits ≡ Some byte
-  found inside = ap (λ place. option_or place (cond (eqb (length digits % 2) 1) (Some (length digits - 1)) None)) (cond-true (ltb byte (length digits)) (Some byte) None (lt-ltb byte (length digits) inside))
+  abbrev last : Option ℕ
+  last = cond (eqb (length digits % 2) 1) (Some (length digits - 1)) None
 
-  missed : length digits ≤ byte → unpaired digits ≡ cond (eqb (length digits % 2) 1) (Some (length digits - 1)) None
-  missed outside = ap (λ place. option_or place (cond (eqb (length digits % 2) 1) (Some (length digits - 1)) None)) (cond-false (ltb byte (length digits)) (Some byte) None (le-ltb byte (length digits) outside))
+  found : byte < length digits → unpaired digits ≡ Some byte
+  found inside = ap (λ place. option_or place last) (cond-true (ltb byte (length digits)) (Some byte) None (lt-ltb byte (length digits) inside))
+
+  missed : length digits ≤ byte → unpaired digits ≡ last
+  missed outside = ap (λ place. option_or place last) (cond-false (ltb byte (length digits)) (Some byte) None (le-ltb byte (length digits) outside))
 
   -- a pair is at fault
   pub unpaired_in_pair : (place : ℕ) (high : Bool) → length pairs ≡ count → position is_stray_pair pairs ≡ Some place

@@ -4,7 +4,7 @@ ghost use Rattle.std.specs.Char.{is_ascii_hexdigit};
 ghost use Rattle.input.specs.Hex.{is_stray_pair, hex_value, unpaired, pairs_read, page_after};
 
 // The offset of the first byte at fault: one that is no digit, else an odd last digit. None where there are pairs of
-// digits only. Behind the pairs the last byte is at fault, whatever it is.
+// digits only. An odd last byte is at fault whether it is a digit or not.
 pub fn first_unpaired(digits: &[u8]) -> Option<usize>
     ensures { result ≡ unpaired digits.now }
 {
@@ -32,6 +32,7 @@ fn is_hex(byte: u8) -> bool
     HEX[usize::from(byte)] != 0
 }
 
+// 1 for each byte that is a digit, 0 for another.
 const HEX: [u8; 256] = [
     0, 0, 0, 0, 0, 0, 0, 0, 0, 0, 0, 0, 0, 0, 0, 0, 0, 0, 0, 0, 0, 0, 0, 0, 0, 0, 0, 0, 0, 0, 0, 0,
     0, 0, 0, 0, 0, 0, 0, 0, 0, 0, 0, 0, 0, 0, 0, 0, 1, 1, 1, 1, 1, 1, 1, 1, 1, 1, 0, 0, 0, 0, 0, 0,
